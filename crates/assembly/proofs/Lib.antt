@@ -1,0 +1,11 @@
+pub mod Pools
+pub mod Correspondence
+pub mod Weights
+pub mod Grammar
+pub mod Tokens
+pub mod Known
+pub mod Sizes
+pub mod Machine
+pub mod Generator
+pub mod Pieces
+pub mod Example

@@ -1,0 +1,5 @@
+pub mod Assembly
+pub mod Machine
+pub mod Generator
+pub mod Laws
+pub mod Example

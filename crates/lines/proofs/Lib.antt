@@ -1,0 +1,6 @@
+pub mod Cuts
+pub mod Holding
+pub mod Passing
+pub mod Pieces
+pub mod Places
+pub mod Waiting

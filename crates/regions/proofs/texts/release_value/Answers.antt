@@ -1,0 +1,11 @@
+use mathlib.Core.Path.{ap, _∙_}
+use native.Mathlib.Omega.{arith}
+use Rattle.regions.specs.Parts.{parts, with-texts}
+use Rattle.regions.proofs.Regions.{parts-texts, part-length}
+use Rattle.regions.proofs.texts.release_value.Needs as need
+
+pub returns : need.returns
+unfolding parts
+returns c =
+    parts-texts (c .args .mem .now) (c .drop-value .last .texts) (c .pre) (c .drop-value .kept .texts ∙ part-length 94976 98304 (c .args .mem .now) (omega arith))
+    ∙ ap (with-texts (parts (c .args .mem .now))) (c .drop-value .ensures)

@@ -1,0 +1,9 @@
+pub mod Words
+pub mod Numbers
+pub mod Space
+pub mod Model
+pub mod Laws
+pub mod Short
+pub mod Values
+pub mod Worth
+pub mod Bytewise
