@@ -2,7 +2,7 @@
 use mathlib.Core.List.{List, [], _∷_}
 use Prim.Native.Nat.{ℕ, zero, suc, _+_, _-_, max}
 use lib.Dec.{eqb, ltb, leb}
-use lib.ListN.{set}
+use lib.ListN.{length, set}
 use Rattle.std.specs.declared.option.Option.{Option}
 use Rattle.std.specs.declared.option.Option.the-variants.{Some, None}
 use Rattle.language.specs.Text.{pick}
@@ -12,6 +12,7 @@ use Rattle.regions.specs.declared.fields.Place.{Place}
 use Rattle.regions.specs.Places.{place-word}
 use Rattle.lines.specs.declared.line.Line.{Line}
 use Rattle.lines.specs.declared.building.Piece.{Piece}
+use Rattle.lines.specs.Cutting.{Cuts, recut-of}
 use Rattle.lines.specs.Lines.{place, nth-place}
 use Rattle.lines.specs.Scanning.{line-at}
 
@@ -62,3 +63,28 @@ after-built p l n k = pick (leb (total (all-pieces (p .fields) l n k)) 65536) (l
 
 unfoldable pub built : Parts → Line → ℕ → ℕ → Option Line
 built p l n k = pick (leb (total (all-pieces (p .fields) l n k)) 65536) (Some (line-at (buffer-of l) (total (all-pieces (p .fields) l n k) - 1) (max (l .fields) n))) None
+
+-- the room that was left is filled
+abbrev pub filled : Parts → Line → ℕ → List ℕ → Parts
+filled p line n v = with-lines p (put-bytes (p .lines) (nth-place (p .fields) line n .start) v)
+
+abbrev pub filled-if : Option Line → Parts → ℕ → List ℕ → Parts
+filled-if None p n v = p
+filled-if (Some line) p n v = filled p line n v
+
+unfoldable pub after-set : Parts → Line → ℕ → List ℕ → Parts
+after-set p l n v = filled-if (built p l n (length v)) (after-built p l n (length v)) n v
+
+-- bytes as a line of their own
+
+unfoldable pub with-text : Parts → Line → List ℕ → Parts
+with-text p l v = with-lines p (put-bytes (p .lines) (buffer-of l) v)
+
+abbrev pub recut-text : Parts → Line → List ℕ → Cuts
+recut-text p l v = recut-of (p .fields) (window (buffer-of l) (length v) (with-text p l v .lines))
+
+unfoldable pub after-line : Parts → Line → List ℕ → Parts
+after-line p l v = with-fields (with-text p l v) (recut-text p l v .words)
+
+unfoldable pub line-of : Parts → Line → List ℕ → Line
+line-of p l v = line-at (buffer-of l) (length v) (recut-text p l v .cut .fields)

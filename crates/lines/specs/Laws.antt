@@ -7,15 +7,16 @@ use Prim.Native.Nat.{ℕ, _+_, _-_, _≤_, _<_}
 use lib.ListN.{length, getD, take}
 use Rattle.std.specs.declared.option.Option.{Option}
 use Rattle.std.specs.declared.option.Option.the-variants.{Some, None}
-use Rattle.language.specs.Text.{has, none-of, fields-from}
-use Rattle.language.specs.Meaning.{whole-lines, last-line, nth-part}
-use Rattle.store.specs.Words.{window}
+use Rattle.language.specs.Text.{has, none-of, fields-from, joined}
+use Rattle.language.specs.Meaning.{whole-lines, last-line, nth-part, set-part, short}
+use Rattle.store.specs.Words.{window, put-bytes}
 use Rattle.regions.specs.Parts.{Parts, with-fields, with-lines}
 use Rattle.regions.specs.declared.fields.Place.{Place}
 use Rattle.lines.specs.declared.cutting.Cut.{Cut}
 use Rattle.lines.specs.declared.line.Line.{Line}
 use Rattle.lines.specs.declared.input.Input.{Input}
 use Rattle.lines.specs.declared.input.Found.the-variants.{Whole, Part}
+use Rattle.lines.specs.Building.{buffer-of, filled, built, after-built, after-line, line-of}
 use Rattle.lines.specs.Cutting.{cuts-of, fresh-cut, pass-all, recut-of}
 use Rattle.lines.specs.Fields.{Sound, Line-holds}
 use Rattle.lines.specs.Lines.{place, nth-place}
@@ -103,3 +104,33 @@ Recut-right = (p : Parts) (q : Place) → Sound p → Cut-anew p q (window (q .s
 unfoldable pub Nth-right : Type 0
 Nth-right = (p : Parts) (line : Line) (l : List ℕ) (fs : List (List ℕ)) (n : ℕ) → Sound p → line .place .start + length l < 18446744073709551616 → Line-holds p line l fs →
     window (nth-place (p .fields) line n .start) (nth-place (p .fields) line n .len) (p .lines) ≡ nth-part fs n
+
+-- A line with one field changed.
+
+-- it lies before the second buffer, or in it
+pub record In-place (line : Line) : Type 0 where
+  pub before : line .place .start < 135168 → line .place .start + line .place .len ≤ 135168
+  pub within : line .place .start + line .place .len ≤ 200704
+
+-- The new line has room: once it is filled, it is held with its fields.
+pub record Built-so (p : Parts) (line : Line) (n : ℕ) (v : List ℕ) (gs : List (List ℕ)) : Type 0 where
+  pub told : built p line n (length v) ≡ Some (line-at (buffer-of line) (length (joined gs)) (length gs))
+  pub holds : Line-holds (filled (after-built p line n (length v)) (line-at (buffer-of line) (length (joined gs)) (length gs)) n v) (line-at (buffer-of line) (length (joined gs)) (length gs)) (joined gs) gs
+
+-- It has none, and nothing is changed.
+pub record Refused-so (p : Parts) (line : Line) (n : ℕ) (v : List ℕ) : Type 0 where
+  pub told : built p line n (length v) ≡ None
+  pub kept : after-built p line n (length v) ≡ p
+
+abbrev pub Build-says : Parts → Line → ℕ → List ℕ → List (List ℕ) → Bool → Type 0
+Build-says p line n v gs true = Built-so p line n v gs
+Build-says p line n v gs false = Refused-so p line n v
+
+unfoldable pub Build-right : Type 0
+Build-right = (p : Parts) (line : Line) (l : List ℕ) (fs : List (List ℕ)) (n : ℕ) (v : List ℕ) → Sound p → Line-holds p line l fs → In-place line → 1 ≤ n → n ≤ 1000 → ((k : ℕ) → getD v k 0 < 256) →
+    Build-says p line n v (set-part 1001 fs n v) (short (joined (set-part 1001 fs n v)))
+
+-- Bytes as a line of their own.
+unfoldable pub Line-right : Type 0
+Line-right = (p : Parts) (line : Line) (v : List ℕ) → Sound p → ((k : ℕ) → getD v k 0 < 256) → length v < 65536 → length (fields-from [] v) ≤ 16448 →
+    Line-holds (after-line p line v) (line-of p line v) v (fields-from [] v)

@@ -9,13 +9,16 @@ ghost use Rattle.language.specs.Text.{pick};
 ghost use Rattle.store.specs.Words.{window, put-byte, put-bytes};
 ghost use Rattle.regions.specs.Parts.{Parts, parts, with-fields, with-lines};
 ghost use Rattle.lines.specs.Fields.{noted};
-ghost use Rattle.lines.specs.Building.{buffer-of, piece-of, pieces, all-pieces, total, laid, laid-one, offsets, built, after-built};
+ghost use Rattle.lines.specs.Building.{buffer-of, piece-of, pieces, all-pieces, total, laid, laid-one, offsets, built, after-built, after-set, after-line, line-of};
+use crate::cutting::recut;
 use crate::line::Line;
 use crate::line::nth_field;
 use regions::fields::Place;
 use regions::fields::set_field;
 use regions::lines::move_lines;
 use regions::lines::put_line_byte;
+use regions::lines::put_text;
+use store::bytes::Bytes;
 
 // Where the two buffers begin, and how many bytes each has: those of the longest line, and a blank.
 const FIRST: usize = 69_632;
@@ -124,4 +127,34 @@ pub fn build(mem: &mut [u64], line: Line, n: usize, len: usize) -> Option<Line>
         len: bytes.saturating_sub(1),
     };
     Some(Line { place, fields })
+}
+
+// The line with the bytes of a value as its field n; None, and nothing is changed, if it would have more than 65,535 bytes.
+pub fn set_line_field<T: Bytes>(mem: &mut [u64], line: Line, n: usize, value: &T) -> Option<Line>
+    requires { ⌜ length (now mem) ≡ 262144 ⌝ }
+    ensures filled { λ _. ⌜ parts (now (mem .exit)) ≡ after-set (parts (now (mem .entry))) line n (T·Bytes .bytes (now (value .entry))) ⌝ }
+    ensures line { λ r. ⌜ r ≡ built (parts (now (mem .entry))) line n (length (T·Bytes .bytes (now (value .entry)))) ⌝ }
+{
+    let new = match build(mem, line, n, value.len()) {
+        Some(new) => new,
+        None => return None,
+    };
+    let gap = nth_field(mem, new, n);
+    put_text(mem, gap.start, value);
+    Some(new)
+}
+
+// The bytes of a value as a line of their own, in a buffer in which the line before does not lie.
+pub fn set_line<T: Bytes>(mem: &mut [u64], line: Line, value: &T) -> Line
+    requires { ⌜ length (now mem) ≡ 262144 ⌝ }
+    ensures cut { λ _. ⌜ parts (now (mem .exit)) ≡ after-line (parts (now (mem .entry))) line (T·Bytes .bytes (now (value .entry))) ⌝ }
+    ensures line { λ r. ⌜ r ≡ line-of (parts (now (mem .entry))) line (T·Bytes .bytes (now (value .entry))) ⌝ }
+{
+    let place = Place {
+        start: free_buffer(line),
+        len: value.len(),
+    };
+    put_text(mem, place.start, value);
+    let fields = recut(mem, place);
+    Line { place, fields }
 }

@@ -1,5 +1,5 @@
 // What the functions of this crate come to, in the words of the specification.
-ghost use Rattle.lines.specs.Laws.{Fresh-right, Scan-right, Take-right, Last-right, Recut-right, Nth-right};
+ghost use Rattle.lines.specs.Laws.{Build-right, Fresh-right, Scan-right, Take-right, Last-right, Line-right, Recut-right, Nth-right};
 
 // A scan begins with nothing looked through.
 pub fn fresh_stands() -> u8
@@ -39,6 +39,20 @@ pub fn recut_stands() -> u8
 // A field is where it is said to be.
 pub fn nth_stands() -> u8
     ensures { λ _. ⌜ Nth-right ⌝ }
+{
+    0
+}
+
+// A line with a field changed is the specification's, once its gap is filled; it is refused just where it would be too long.
+pub fn build_stands() -> u8
+    ensures { λ _. ⌜ Build-right ⌝ }
+{
+    0
+}
+
+// Bytes as a line of their own have their fields.
+pub fn line_stands() -> u8
+    ensures { λ _. ⌜ Line-right ⌝ }
 {
     0
 }

@@ -1,0 +1,4 @@
+mod Copying
+mod Figures
+mod Joining
+mod Pieces

@@ -1,0 +1,10 @@
+pub mod Between
+pub mod Dispatch
+pub mod Fields
+pub mod Jumps
+pub mod Numbers
+pub mod Ops
+pub mod Registers
+pub mod Slots
+pub mod Texts
+pub mod Turns
