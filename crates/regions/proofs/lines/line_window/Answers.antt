@@ -3,4 +3,4 @@ use Rattle.regions.proofs.lines.line_window.Goals as goal
 
 pub returns : goal.returns
 unfolding parts
-returns c = c.window-of.ensures
+returns c = c.window_of.ensures

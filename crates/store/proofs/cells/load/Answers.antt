@@ -6,7 +6,7 @@ use Rattle.store.proofs.Coding.{decoded_read, length_decoded}
 use Rattle.store.proofs.cells.load.Goals as goal
 
 pub returns-then-i-cells : goal.returns-then-i-cells
-returns-then-i-cells c = c.value-of.ensures ∙ decoded_read c.args.cells.now c.args.i (omega arith)
+returns-then-i-cells c = c.value_of.ensures ∙ decoded_read c.args.cells.now c.args.i (omega arith)
 
 pub returns-else-i-cells : goal.returns-else-i-cells
 returns-else-i-cells c = sym (get_or_past (decoded c.args.cells.now) c.args.i Unset (omega (arith, length_decoded c.args.cells.now)))

@@ -14,10 +14,10 @@ pub returns-in-Number : goal.returns-in-Number
 returns-in-Number c =
     let n = c.in-Number.n in
     let f : SFits w64 n = search rules in
-    let e : c.cast-unsigned.result ≡ of_z w64 n = search rules in
+    let e : c.cast_unsigned.result ≡ of_z w64 n = search rules in
     record {
-      payload = told_payload c.args.v (Number n) c.cast-unsigned.result c.in-Number.is e;
-      back = told_back c.args.v (Number n) c.cast-unsigned.result c.in-Number.is e (number_back n f);
+      payload = told_payload c.args.v (Number n) c.cast_unsigned.result c.in-Number.is e;
+      back = told_back c.args.v (Number n) c.cast_unsigned.result c.in-Number.is e (number_back n f);
     }
 
 pub returns-in-Text : goal.returns-in-Text

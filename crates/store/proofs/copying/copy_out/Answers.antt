@@ -15,8 +15,8 @@ returns-then-n-gt0 g c =
     let e : w + (n - w) ≡ min (length p) (length d - c.args.at) = omega arith in
     record {
       count = omega arith;
-      copied = c.bytes-out.ensures
-          ∙ ap (λ x. paste x (c.args.at + w) (drop (c.args.from + w) bs) (n - w)) c.words-out.ensures
+      copied = c.bytes_out.ensures
+          ∙ ap (λ x. paste x (c.args.at + w) (drop (c.args.from + w) bs) (n - w)) c.words_out.ensures
           ∙ ap (λ x. paste (paste d c.args.at p w) (c.args.at + w) x (n - w)) (sym (drop-drop w c.args.from bs))
           ∙ paste_behind d p c.args.at w (n - w) (omega arith) (omega arith) ∙ ap (paste d c.args.at p) e;
     }

@@ -16,7 +16,7 @@ loop-i-preserved g c =
     let i : ℕ = c.loop-i.i in
     let l = length-drop c.args.from bs in
     let n : 8 * i + 8 ≡ 8 * (i + 1) = omega arith in
-    c.put-eight.ensures
+    c.put_eight.ensures
     ∙ ap (λ x. paste c.loop-i.out (c.args.at + 8 * i) x 8) (c.word.ensures ∙ ap (λ x. take 8 x) (sym (drop-drop (8 * i) c.args.from bs)))
     ∙ ap (λ x. paste x (c.args.at + 8 * i) (take 8 (drop (8 * i) p)) 8) c.loop-i.invariant
     ∙ paste_on d p c.args.at (8 * i) 8 (omega arith) (omega arith)

@@ -8,15 +8,15 @@ use Rattle.store.proofs.decimal.decimal_of.Goals as goal
 pub returns-then-n-ge0 : goal.returns-then-n-ge0
 returns-then-n-ge0 c =
     let h : pos 0 ≤ℤ c.args.n = omega (arith, ints) in
-    let v : c.unsigned-abs.result ≡ nat_abs c.args.n = search rules in
-    c.put-digits-from.ensures.digits ∙ ap (λ x. digits 20 x []) v ∙ text_at_least_0 c.args.n h
+    let v : c.unsigned_abs.result ≡ nat_abs c.args.n = search rules in
+    c.put_digits-from.ensures.digits ∙ ap (λ x. digits 20 x []) v ∙ text_at_least_0 c.args.n h
 
 pub returns : goal.returns
 returns c =
     let h : c.args.n <ℤ pos 0 = omega (arith, ints) in
-    let v : c.unsigned-abs.result ≡ nat_abs c.args.n = search rules in
-    let f : ℕ = c.put-digits-from.result in
+    let v : c.unsigned_abs.result ≡ nat_abs c.args.n = search rules in
+    let f : ℕ = c.put_digits-from.result in
     let e : f - 1 + 1 ≡ f = omega arith in
-    drop-set c.put-digits-from.new.row (f - 1) 45 (omega arith)
-    ∙ ap (λ x. 45 ∷ x) (ap (λ x. drop x c.put-digits-from.new.row) e ∙ c.put-digits-from.ensures.digits ∙ ap (λ x. digits 20 x []) v)
+    drop-set c.put_digits-from.new.row (f - 1) 45 (omega arith)
+    ∙ ap (λ x. 45 ∷ x) (ap (λ x. drop x c.put_digits-from.new.row) e ∙ c.put_digits-from.ensures.digits ∙ ap (λ x. digits 20 x []) v)
     ∙ text_below_0 c.args.n h

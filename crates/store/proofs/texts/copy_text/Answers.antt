@@ -13,10 +13,10 @@ returns-then-to-lt-BYTES c =
     let s : Space = space 20480 m in
     let hp : List ℕ = s.heap in
     let l = heap_length 20480 m in
-    let e : c.saturating-add-to.result ≡ bytes_at 77822 s c.args.h.index + c.args.at = omega arith in
-    let t : ℕ = c.saturating-add-to.result in
-    heap_put 20480 77822 m c.move-bytes.new.words c.requires (c.move-bytes.auto.words ∙ part_length 20480 77822 m c.requires)
-    ∙ ap (with_heap s) (c.move-bytes.ensures ∙ ap (λ x. put_bytes x t (window c.min-begin.result c.min-n.result x)) (heap_part 20480 77822 m c.requires)
+    let e : c.saturating_add-to.result ≡ bytes_at 77822 s c.args.h.index + c.args.at = omega arith in
+    let t : ℕ = c.saturating_add-to.result in
+    heap_put 20480 77822 m c.move_bytes.new.words c.requires (c.move_bytes.auto.words ∙ part_length 20480 77822 m c.requires)
+    ∙ ap (with_heap s) (c.move_bytes.ensures ∙ ap (λ x. put_bytes x t (window c.min-begin.result c.min-n.result x)) (heap_part 20480 77822 m c.requires)
     ∙ moved_cut hp (bytes_at 77822 s c.args.from.index) (length_of 77822 s c.args.from.index) t c.min-begin.result c.min-size.result c.min-n.result (omega arith) (omega arith) (omega arith)
     ∙ ap (λ k. put_bytes hp k (window (bytes_at 77822 s c.args.from.index) (length_of 77822 s c.args.from.index) hp)) e)
 

@@ -10,9 +10,9 @@ unfolding written
 returns-then-to-lt-BYTES g c =
     let m : List ℕ = c.args.texts.now in
     let b : List ℕ = g.T.Bytes.bytes c.args.t.now in
-    let e : c.saturating-add-to.result ≡ bytes_at 77822 (space 20480 m) c.args.h.index + c.args.at = omega arith in
-    heap_put 20480 77822 m c.copy-in.new.words c.requires (c.copy-in.auto.words ∙ part_length 20480 77822 m c.requires)
-    ∙ ap (with_heap (space 20480 m)) (c.copy-in.ensures ∙ ap (λ x. put_bytes x c.saturating-add-to.result b) (heap_part 20480 77822 m c.requires)
+    let e : c.saturating_add-to.result ≡ bytes_at 77822 (space 20480 m) c.args.h.index + c.args.at = omega arith in
+    heap_put 20480 77822 m c.copy_in.new.words c.requires (c.copy_in.auto.words ∙ part_length 20480 77822 m c.requires)
+    ∙ ap (with_heap (space 20480 m)) (c.copy_in.ensures ∙ ap (λ x. put_bytes x c.saturating_add-to.result b) (heap_part 20480 77822 m c.requires)
     ∙ ap (λ k. put_bytes (space 20480 m).heap k b) e)
 
 pub returns-else-to-lt-BYTES : goal.returns-else-to-lt-BYTES

@@ -10,7 +10,7 @@ returns-then-to-from c =
     let d : drop (20482 + c.args.from) c.args.texts.now ≡ drop c.args.from (space 20480 c.args.texts.now).heap
     = sym (drop-drop c.args.from 20482 c.args.texts.now) ∙ ap (drop c.args.from) (sym (heap_is 20480 c.args.texts.now)) in
     ap (space 20480)
-    (c.copy-within.ensures.after
+    (c.copy_within.ensures.after
     ∙ ap (paste c.args.texts.now (20482 + c.args.to) (drop (20482 + c.args.from) c.args.texts.now)) e
     ∙ ap (λ y. paste c.args.texts.now (20482 + c.args.to) y c.args.n) d)
     ∙ pasted 20480 c.args.texts.now (drop c.args.from (space 20480 c.args.texts.now).heap) c.args.to c.args.n (omega arith)

@@ -14,7 +14,7 @@ loop-i-preserved c =
     = omega (arith, c.word.ensures, c.min-n.ensures) in
     elim c.if-h-lt-HANDLES.branch [
       | then-h-lt-HANDLES w ↦
-          let m = ap (space 20480) w.texts-is ∙ w.set-entry.ensures ∙ ap (λ x. put_entry x c.word-h.result c.loop-i.to) w.shift.ensures in (
+          let m = ap (space 20480) w.texts-is ∙ w.set_entry.ensures ∙ ap (λ x. put_entry x c.word-h.result c.loop-i.to) w.shift.ensures in (
             c.loop-i.invariant.0
                 ∙ turn_live 20480 77822 c.loop-i.i c.args.end (space 20480 c.loop-i.texts) (space 20480 c.if-h-lt-HANDLES.texts) c.loop-i.from c.loop-i.to c.min-n.result c.word-h.result
                 (omega arith) (omega arith) n (sym c.word-h.ensures) (omega arith) m

@@ -11,10 +11,10 @@ returns-then-n-gt0 g c =
     let e : n ≡ min (length b) (8 * length ws - c.args.to) = omega arith in
     let head : ℕ = c.min-head.result in
     let whole : ℕ = (n - head) / 8 in
-    three_parts ws c.put_bytes.new.words c.put-words.new.words c.put-bytes-then-n-gt0.new.words c.args.to b head (8 * whole) (head + 8 * whole) n refl (omega arith) (omega arith)
+    three_parts ws c.put_bytes.new.words c.put_words.new.words c.put_bytes-then-n-gt0.new.words c.args.to b head (8 * whole) (head + 8 * whole) n refl (omega arith) (omega arith)
     c.put_bytes.ensures
-    (words_placed c.put_bytes.new.words c.put-words.new.words (c.args.to + head) ((c.args.to + head) / 8) whole (drop head b) c.put-words.ensures (λ h. omega arith))
-    c.put-bytes-then-n-gt0.ensures
+    (words_placed c.put_bytes.new.words c.put_words.new.words (c.args.to + head) ((c.args.to + head) / 8) whole (drop head b) c.put_words.ensures (λ h. omega arith))
+    c.put_bytes-then-n-gt0.ensures
     ∙ puts_all ws c.args.to b n e
 
 pub returns-else-n-gt0 : goal.returns-else-n-gt0

@@ -16,14 +16,14 @@ words_apart f t n h (inr o) e =
       | inl l ↦ inr (elim (cases_lt n 8) [ inl k ↦ omega arith | inr k ↦ omega arith ])
     ]
 
-pub move-some-requires : goal.move-some-requires
-move-some-requires c = record { inside = search rules; apart = elim c.requires.apart [ inl o ↦ inl o | inr o ↦ inr (omega arith) ] }
+pub move_some-requires : goal.move_some-requires
+move_some-requires c = record { inside = search rules; apart = elim c.requires.apart [ inl o ↦ inl o | inr o ↦ inr (omega arith) ] }
 
-pub move-words-requires : goal.move-words-requires
-move-words-requires c = record { inside = search rules; apart = words_apart c.args.from c.args.to c.args.n c.min-head.result c.requires.apart c.min-head.ensures }
+pub move_words-requires : goal.move_words-requires
+move_words-requires c = record { inside = search rules; apart = words_apart c.args.from c.args.to c.args.n c.min-head.result c.requires.apart c.min-head.ensures }
 
-pub move-some-requires-2 : goal.move-some-requires-2
-move-some-requires-2 c =
+pub move_some-requires-2 : goal.move_some-requires-2
+move_some-requires-2 c =
     let d : ℕ = c.min-head.result + 8 * ((c.args.n - c.min-head.result) / 8) in
     record { inside = search rules; apart = part_apart c.args.from c.args.to c.args.n d (c.args.n - d) c.requires.apart (omega arith) }
 
@@ -31,7 +31,7 @@ pub returns : goal.returns
 returns c =
     let h : ℕ = c.min-head.result in
     let w : ℕ = (c.args.n - h) / 8 in
-    moved_parts c.args.words.now c.move-some.new.words c.move-words.new.words c.move-some-2.new.words c.args.from c.args.to h (8 * w) (h + 8 * w) c.args.n refl (omega arith) (omega arith) c.requires.apart
-    c.move-some.ensures
-    (moved_words c.move-some.new.words c.move-words.new.words (c.args.to + h) ((c.args.to + h) / 8) w (c.args.from + h) c.move-words.ensures (λ x. omega arith))
-    c.move-some-2.ensures
+    moved_parts c.args.words.now c.move_some.new.words c.move_words.new.words c.move_some-2.new.words c.args.from c.args.to h (8 * w) (h + 8 * w) c.args.n refl (omega arith) (omega arith) c.requires.apart
+    c.move_some.ensures
+    (moved_words c.move_some.new.words c.move_words.new.words (c.args.to + h) ((c.args.to + h) / 8) w (c.args.from + h) c.move_words.ensures (λ x. omega arith))
+    c.move_some-2.ensures

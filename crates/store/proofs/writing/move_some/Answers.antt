@@ -15,7 +15,7 @@ loop-i-preserved c =
     let i : ℕ = c.loop-i.i in
     let l = length_window c.args.from c.args.n ws (omega arith) in
     let e : c.byte-b.result ≡ get_or bs i 0 = c.byte-b.ensures ∙ ap (λ x. get_or (unpacked x) (c.args.from + i) 0) c.loop-i.invariant ∙ byte_ahead ws c.args.from c.args.to c.args.n i (omega arith) (omega arith) c.requires.apart in
-    c.set-byte.ensures ∙ ap (λ x. put_byte x (c.args.to + i) c.byte-b.result) c.loop-i.invariant
+    c.set_byte.ensures ∙ ap (λ x. put_byte x (c.args.to + i) c.byte-b.result) c.loop-i.invariant
     ∙ ap (put_byte (put_bytes ws c.args.to (take i bs)) (c.args.to + i)) e ∙ sym (puts_more ws c.args.to bs i (omega arith))
 
 pub returns : goal.returns

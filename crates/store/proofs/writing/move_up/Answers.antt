@@ -10,7 +10,7 @@ loop-i-init c =
     let ws : List ℕ = c.args.words.now in
     let bs : List ℕ = window c.args.from c.args.n ws in
     let l = length_window c.args.from c.args.n ws (omega arith) in
-    (sym (ap (put_bytes ws (c.args.to + c.args.n)) (drop_all c.args.n bs (omega arith)) ∙ puts_none ws (c.args.to + c.args.n)), λ i. (c.type-inv.words i).fits)
+    (sym (ap (put_bytes ws (c.args.to + c.args.n)) (drop_all c.args.n bs (omega arith)) ∙ puts_none ws (c.args.to + c.args.n)), λ i. (c.type_inv.words i).fits)
 
 pub loop-i-preserved : goal.loop-i-preserved
 loop-i-preserved c =
@@ -21,7 +21,7 @@ loop-i-preserved c =
     let l = length_window c.args.from c.args.n ws (omega arith) in
     let inv : c.loop-i.words ≡ put_bytes ws (c.args.to + (i + 1)) (drop (i + 1) bs) = c.loop-i.invariant.0 ∙ ap (λ k. put_bytes ws (c.args.to + k) (drop k bs)) s in
     let e : c.byte-b.result ≡ get_or bs i 0 = c.byte-b.ensures ∙ ap (λ x. get_or (unpacked x) (c.args.from + i) 0) inv ∙ byte_below ws c.args.from c.args.to c.args.n i (omega arith) (omega arith) (omega arith) in (
-      c.set-byte.ensures ∙ ap (λ x. put_byte x (c.args.to + i) c.byte-b.result) inv
+      c.set_byte.ensures ∙ ap (λ x. put_byte x (c.args.to + i) c.byte-b.result) inv
           ∙ ap (put_byte (put_bytes ws (c.args.to + (i + 1)) (drop (i + 1) bs)) (c.args.to + i)) e
           ∙ puts_before ws c.args.to bs i c.loop-i.invariant.1 (window_below c.args.from c.args.n ws) (omega arith),
       c.loop-i.invariant.1,

@@ -10,7 +10,7 @@ pub loop-i-preserved : goal.loop-i-preserved
 loop-i-preserved g c =
     let b = drop c.args.from (g.T.Bytes.bytes c.args.t.now) in
     let l = length-drop c.args.from (g.T.Bytes.bytes c.args.t.now) in
-    c.set-byte.ensures
+    c.set_byte.ensures
     ∙ ap (put_byte c.loop-i.words (c.args.to + c.loop-i.i)) (c.at.ensures ∙ sym (get_or-drop c.args.from (g.T.Bytes.bytes c.args.t.now) c.loop-i.i 0))
     ∙ sym (puts_more c.args.words.now c.args.to b c.loop-i.i (omega arith) ∙ (rw (← c.loop-i.invariant)))
 

@@ -4,11 +4,11 @@ use Rattle.store.proofs.Packing.{cleared_le, put_code, put_lt}
 use Rattle.store.proofs.Putting.{put_past}
 use Rattle.store.proofs.writing.set_byte.Goals as goal
 
-pub overflow-sub-words : goal.overflow-sub-words
-overflow-sub-words c = cleared_le (get_or c.args.words.now (c.args.i / 8) 0) (c.args.i % 8) (omega arith)
+pub overflow_sub-words : goal.overflow_sub-words
+overflow_sub-words c = cleared_le (get_or c.args.words.now (c.args.i / 8) 0) (c.args.i % 8) (omega arith)
 
-pub overflow-add-words : goal.overflow-add-words
-overflow-add-words c =
+pub overflow_add-words : goal.overflow_add-words
+overflow_add-words c =
     let w : ℕ = get_or c.args.words.now (c.args.i / 8) 0 in
     let s : c.args.b < 256 = omega arith in
     let f : w < 2 ^ 64 = search rules in

@@ -13,5 +13,5 @@ returns-in-Some c =
 pub returns-in-None : goal.returns-in-None
 returns-in-None c = λ n h. atom_at_end n c.args.c.byte _ c.requires.1.1 c.in-92.is c.in-None.ensures
 
-pub returns-in-default : goal.returns-in-default
-returns-in-default c = (omega arith, omega arith, omega arith, λ n h. atom_other n c.args.c.byte _ c.requires.1.1 (λ e. omega arith) (λ e. omega arith))
+pub returns-in_default : goal.returns-in_default
+returns-in_default c = (omega arith, omega arith, omega arith, λ n h. atom_other n c.args.c.byte _ c.requires.1.1 (λ e. omega arith) (λ e. omega arith))

@@ -15,7 +15,7 @@ loop-i-preserved c =
     let p = c.in-Token.ensures in (
       omega arith,
       p.1,
-      far_token c.args.text.now c.loop-i.work c.store.new.work c.loop-i.i c.loop-i.n c.in-Token.to c.in-Token.t p.2.0 c.token-cell.result (omega arith) p.0 p.2.2 p.2.1 c.token-cell.ensures c.store.ensures c.loop-i.invariant.2,
+      far_token c.args.text.now c.loop-i.work c.store.new.work c.loop-i.i c.loop-i.n c.in-Token.to c.in-Token.t p.2.0 c.token_cell.result (omega arith) p.0 p.2.2 p.2.1 c.token_cell.ensures c.store.ensures c.loop-i.invariant.2,
     )
 
 pub returns : goal.returns

@@ -4,11 +4,11 @@ use Rattle.language.specs.Text.{leading}
 use Rattle.tokens.proofs.tokens.number.Goals as goal
 use Rattle.tokens.proofs.tokens.number.Goals.{then-i-from-lt18, else-i-from-lt18}
 
-pub overflow-mul-n : goal.overflow-mul-n
-overflow-mul-n c = omega (arith, small c.loop-i.n (c.loop-i.i - c.args.from) (omega arith) (c.loop-i.invariant.4 (omega arith)))
+pub overflow_mul-n : goal.overflow_mul-n
+overflow_mul-n c = omega (arith, small c.loop-i.n (c.loop-i.i - c.args.from) (omega arith) (c.loop-i.invariant.4 (omega arith)))
 
-pub overflow-add-n : goal.overflow-add-n
-overflow-add-n c = omega (arith, small c.loop-i.n (c.loop-i.i - c.args.from) (omega arith) (c.loop-i.invariant.4 (omega arith)))
+pub overflow_add-n : goal.overflow_add-n
+overflow_add-n c = omega (arith, small c.loop-i.n (c.loop-i.i - c.args.from) (omega arith) (c.loop-i.invariant.4 (omega arith)))
 
 pub loop-i-preserved : goal.loop-i-preserved
 loop-i-preserved c =

@@ -3,14 +3,14 @@ use Rattle.language.specs.Program.{word}
 use Rattle.tokens.proofs.Bytes.{gap_piece, comment_piece, word_piece}
 use Rattle.tokens.proofs.tokens.piece_at.Goals as goal
 
-pub number-piece-requires : goal.number-piece-requires
-number-piece-requires c = (omega arith, (omega arith, sym c.in-Digit.ensures))
+pub number_piece-requires : goal.number_piece-requires
+number_piece-requires c = (omega arith, (omega arith, sym c.in-Digit.ensures))
 
-pub quote-piece-requires : goal.quote-piece-requires
-quote-piece-requires c = (omega arith, (omega arith, sym c.in-Quote.ensures))
+pub quote_piece-requires : goal.quote_piece-requires
+quote_piece-requires c = (omega arith, (omega arith, sym c.in-Quote.ensures))
 
-pub sign-piece-requires : goal.sign-piece-requires
-sign-piece-requires c = (omega arith, (omega arith, sym c.in-Other.ensures))
+pub sign_piece-requires : goal.sign_piece-requires
+sign_piece-requires c = (omega arith, (omega arith, sym c.in-Other.ensures))
 
 pub returns-in-Gap : goal.returns-in-Gap
 returns-in-Gap c = (omega arith, omega arith, λ m. gap_piece c.args.text.now c.args.i m (omega arith) (sym c.in-Gap.ensures))
@@ -23,8 +23,8 @@ returns-in-Letter c = (
   omega arith,
   omega arith,
   (
-    word (take (c.past-word-to.result - c.args.i) (drop c.args.i c.args.text.now)),
-    c.word-token.ensures,
-    λ m. word_piece c.args.text.now c.args.i m c.past-word-to.result (omega arith) (sym c.in-Letter.ensures) c.past-word-to.ensures.0,
+    word (take (c.past_word-to.result - c.args.i) (drop c.args.i c.args.text.now)),
+    c.word_token.ensures,
+    λ m. word_piece c.args.text.now c.args.i m c.past_word-to.result (omega arith) (sym c.in-Letter.ensures) c.past_word-to.ensures.0,
   ),
 )

@@ -9,10 +9,10 @@ returns-then-to-eq0 c =
     let P : ℕ → Type 0 = λ k. QuoteEnded c.args.text.now (c.args.i + 1) k in (
       omega arith,
       omega arith,
-      (bad, refl, λ m. bad_piece c.args.text.now c.args.i m (open_piece c.args.text.now c.args.i m (omega arith) c.requires.1.1 (subst P c.if-to-eq0.true c.past-quote-to.ensures))),
+      (bad, refl, λ m. bad_piece c.args.text.now c.args.i m (open_piece c.args.text.now c.args.i m (omega arith) c.requires.1.1 (subst P c.if-to-eq0.true c.past_quote-to.ensures))),
     )
 
 pub returns-else-to-eq0 : goal.returns-else-to-eq0
 returns-else-to-eq0 c =
-    let q = λ (m : ℕ). quote_piece c.args.text.now c.args.i m c.past-quote-to.result (omega arith) c.requires.1.1 c.if-to-eq0.false c.past-quote-to.ensures in
+    let q = λ (m : ℕ). quote_piece c.args.text.now c.args.i m c.past_quote-to.result (omega arith) c.requires.1.1 c.if-to-eq0.false c.past_quote-to.ensures in
     ((q 0).0, (q 0).1, (quoted (quote_part (drop (c.args.i + 1) c.args.text.now)), (refl, omega arith), λ m. (q m).2))

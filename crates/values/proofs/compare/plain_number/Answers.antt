@@ -5,8 +5,8 @@ use Rattle.values.specs.Compare.{upwards, plain_number}
 use Rattle.values.proofs.Reading.{plainly}
 use Rattle.values.proofs.compare.plain_number.Goals as goal
 
-pub overflow-cast-result : goal.overflow-cast-result
-overflow-cast-result c = record { sfits = omega (arith, (plainly (bytes_of c.in-Short.short.len c.in-Short.short.word) c.in-Some.n c.in-Some.ensures).small) }
+pub overflow_cast-result : goal.overflow_cast-result
+overflow_cast-result c = record { sfits = omega (arith, (plainly (bytes_of c.in-Short.short.len c.in-Short.short.word) c.in-Some.n c.in-Some.ensures).small) }
 
 pub returns-in-Some : goal.returns-in-Some
 returns-in-Some c =

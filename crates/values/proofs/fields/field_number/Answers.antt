@@ -8,12 +8,12 @@ returns-then-n-lt0 c =
     let e : to_z w64 (of_z w64 c.args.n) ≡ c.args.n = omega (arith, ints) in
     field_number_not c.args.n (inl (simp e at c.if-n-lt0.true))
 
-pub returns-then-n-gt-LAST-FIELD : goal.returns-then-n-gt-LAST-FIELD
-returns-then-n-gt-LAST-FIELD c =
+pub returns-then-n-gt-LAST_FIELD : goal.returns-then-n-gt-LAST_FIELD
+returns-then-n-gt-LAST_FIELD c =
     let e : to_z w64 (of_z w64 c.args.n) ≡ c.args.n = omega (arith, ints) in
-    field_number_not c.args.n (inr (simp e at c.if-n-gt-LAST-FIELD.true))
+    field_number_not c.args.n (inr (simp e at c.if-n-gt-LAST_FIELD.true))
 
-pub returns-else-n-gt-LAST-FIELD : goal.returns-else-n-gt-LAST-FIELD
-returns-else-n-gt-LAST-FIELD c =
+pub returns-else-n-gt-LAST_FIELD : goal.returns-else-n-gt-LAST_FIELD
+returns-else-n-gt-LAST_FIELD c =
     let e : to_z w64 (of_z w64 c.args.n) ≡ c.args.n = omega (arith, ints) in
-    simp e (field_number_so c.args.n (simp e at c.if-n-lt0.false) (simp e at c.if-n-gt-LAST-FIELD.false))
+    simp e (field_number_so c.args.n (simp e at c.if-n-lt0.false) (simp e at c.if-n-gt-LAST_FIELD.false))

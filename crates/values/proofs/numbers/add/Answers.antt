@@ -6,4 +6,4 @@ use Rattle.values.proofs.Reckoning.{sum_is}
 use Rattle.values.proofs.numbers.add.Goals as goal
 
 pub returns : goal.returns
-returns c = rw (sum_is c.args.a c.args.b) (c.in-bounds.ensures ∙ ap (λ z. within (number z)) (omega (arith, ints)))
+returns c = rw (sum_is c.args.a c.args.b) (c.in_bounds.ensures ∙ ap (λ z. within (number z)) (omega (arith, ints)))

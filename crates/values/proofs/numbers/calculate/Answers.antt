@@ -12,7 +12,7 @@ unfolding reckon
 returns-in-Add c = λ v w s h k.
     let e : c.args.a ≡ to_z w64 (of_z w64 c.args.a) = omega (arith, ints) in
     let f : c.args.b ≡ to_z w64 (of_z w64 c.args.b) = omega (arith, ints) in
-    reckoned sum _ _ c.add.result c.ok-or.result c.add.ensures c.ok-or.ensures.value v w s (h ∙ ap number e) (k ∙ ap number f)
+    reckoned sum _ _ c.add.result c.ok_or.result c.add.ensures c.ok_or.ensures.value v w s (h ∙ ap number e) (k ∙ ap number f)
     ∙ ap (λ o. reckon (operation o) v w s) (sym c.in-Add.is)
 
 pub returns-in-Subtract : goal.returns-in-Subtract
@@ -20,7 +20,7 @@ unfolding reckon
 returns-in-Subtract c = λ v w s h k.
     let e : c.args.a ≡ to_z w64 (of_z w64 c.args.a) = omega (arith, ints) in
     let f : c.args.b ≡ to_z w64 (of_z w64 c.args.b) = omega (arith, ints) in
-    reckoned (λ x y. sum x (opposite y)) _ _ c.subtract.result c.ok-or-in-Subtract.result c.subtract.ensures c.ok-or-in-Subtract.ensures.value v w s (h ∙ ap number e) (k ∙ ap number f)
+    reckoned (λ x y. sum x (opposite y)) _ _ c.subtract.result c.ok_or-in-Subtract.result c.subtract.ensures c.ok_or-in-Subtract.ensures.value v w s (h ∙ ap number e) (k ∙ ap number f)
     ∙ ap (λ o. reckon (operation o) v w s) (sym c.in-Subtract.is)
 
 pub returns-in-Multiply : goal.returns-in-Multiply
@@ -28,7 +28,7 @@ unfolding reckon
 returns-in-Multiply c = λ v w s h k.
     let e : c.args.a ≡ to_z w64 (of_z w64 c.args.a) = omega (arith, ints) in
     let f : c.args.b ≡ to_z w64 (of_z w64 c.args.b) = omega (arith, ints) in
-    reckoned product _ _ c.multiply.result c.ok-or-in-Multiply.result c.multiply.ensures c.ok-or-in-Multiply.ensures.value v w s (h ∙ ap number e) (k ∙ ap number f)
+    reckoned product _ _ c.multiply.result c.ok_or-in-Multiply.result c.multiply.ensures c.ok_or-in-Multiply.ensures.value v w s (h ∙ ap number e) (k ∙ ap number f)
     ∙ ap (λ o. reckon (operation o) v w s) (sym c.in-Multiply.is)
 
 pub returns-in-Divide : goal.returns-in-Divide

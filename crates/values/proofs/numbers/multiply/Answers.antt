@@ -11,4 +11,4 @@ returns c =
     let e : to_z w128 (of_z w128 (to_z w64 (of_z w64 c.args.a))) ≡ c.args.a = omega (arith, ints) in
     let g : to_z w128 (of_z w128 (to_z w64 (of_z w64 c.args.b))) ≡ c.args.b = omega (arith, ints) in
     let f : SFits w128 (c.args.a *ℤ c.args.b) = search rules in
-    rw (product_is c.args.a c.args.b) (c.in-bounds.ensures ∙ ap (λ z. within (number z)) (simp (e, g) (to_z-of_z w128 (c.args.a *ℤ c.args.b) f)))
+    rw (product_is c.args.a c.args.b) (c.in_bounds.ensures ∙ ap (λ z. within (number z)) (simp (e, g) (to_z-of_z w128 (c.args.a *ℤ c.args.b) f)))

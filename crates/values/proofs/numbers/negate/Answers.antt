@@ -6,4 +6,4 @@ use Rattle.values.proofs.Reckoning.{opposite_is}
 use Rattle.values.proofs.numbers.negate.Goals as goal
 
 pub returns : goal.returns
-returns c = rw (opposite_is c.args.a) (c.in-bounds.ensures ∙ ap (λ z. within (number z)) (omega (arith, ints)))
+returns c = rw (opposite_is c.args.a) (c.in_bounds.ensures ∙ ap (λ z. within (number z)) (omega (arith, ints)))

@@ -9,6 +9,6 @@ pub returns : goal.returns
 returns c =
     let e : to_z w64 (of_z w64 c.args.a) ≡ c.args.a = omega (arith, ints) in
     let g : to_z w64 (of_z w64 c.args.b) ≡ c.args.b = omega (arith, ints) in
-    let z : to_z w128 (of_z w128 (to_z w64 (of_z w64 c.rest-of.result))) ≡ c.rest-of.result = omega (arith, ints) in
-    left_over_answered c.args.a c.args.b _ c.in-bounds.result c.ok-or.result (λ z. c.if-b-eq0.false (ap (of_z w64) z)) c.in-bounds.ensures c.ok-or.ensures.value
-    (z ∙ c.rest-of.ensures ∙ ap (λ x. rem_z x (to_z w64 (of_z w64 c.args.b))) e ∙ ap (rem_z c.args.a) g)
+    let z : to_z w128 (of_z w128 (to_z w64 (of_z w64 c.rest_of.result))) ≡ c.rest_of.result = omega (arith, ints) in
+    left_over_answered c.args.a c.args.b _ c.in_bounds.result c.ok_or.result (λ z. c.if-b-eq0.false (ap (of_z w64) z)) c.in_bounds.ensures c.ok_or.ensures.value
+    (z ∙ c.rest_of.ensures ∙ ap (λ x. rem_z x (to_z w64 (of_z w64 c.args.b))) e ∙ ap (rem_z c.args.a) g)

@@ -16,7 +16,7 @@ returns-then-from-le0 c =
       inside = omega arith;
       part = λ b h.
           cut_before c.args.from c.args.count b c.min.result (simp e at c.if-count-le0.false) (simp f at c.if-from-le0.true)
-          (c.min.ensures ∙ ap (λ n. min n c.args.len) (c.saturating-sub.ensures ∙ ap (λ z. nat_abs z - (c.unsigned-abs.result + 1)) e ∙ ap (λ n. nat_abs c.args.count - (n + 1)) (c.unsigned-abs.ensures.value ∙ ap nat_abs f))
+          (c.min.ensures ∙ ap (λ n. min n c.args.len) (c.saturating_sub.ensures ∙ ap (λ z. nat_abs z - (c.unsigned_abs.result + 1)) e ∙ ap (λ n. nat_abs c.args.count - (n + 1)) (c.unsigned_abs.ensures.value ∙ ap nat_abs f))
           ∙ ap (min _) (sym h));
     }
 

@@ -8,11 +8,11 @@ returns-then-n-eq0 g c = place_of_nothing (g.B.Bytes.bytes c.args.b.now) (g.A.By
 pub returns-then-n-m : goal.returns-then-n-m
 returns-then-n-m g c = place_of_longer (g.B.Bytes.bytes c.args.b.now) (g.A.Bytes.bytes c.args.a.now) (omega arith)
 
-pub returns-then-stands-at : goal.returns-then-stands-at
-returns-then-stands-at g c = sym (c.loop-i.invariant ∙ place_found (g.B.Bytes.bytes c.args.b.now) (g.A.Bytes.bytes c.args.a.now) (c.len-m.result - c.len-n.result + 1) c.loop-i.i (omega arith) (sym c.if-stands-at.ensures))
+pub returns-then-stands_at : goal.returns-then-stands_at
+returns-then-stands_at g c = sym (c.loop-i.invariant ∙ place_found (g.B.Bytes.bytes c.args.b.now) (g.A.Bytes.bytes c.args.a.now) (c.len-m.result - c.len-n.result + 1) c.loop-i.i (omega arith) (sym c.if-stands_at.ensures))
 
 pub loop-i-preserved : goal.loop-i-preserved
-loop-i-preserved g c = c.loop-i.invariant ∙ place_more (g.B.Bytes.bytes c.args.b.now) (g.A.Bytes.bytes c.args.a.now) (c.len-m.result - c.len-n.result + 1) c.loop-i.i (omega arith) (sym c.if-stands-at.ensures)
+loop-i-preserved g c = c.loop-i.invariant ∙ place_more (g.B.Bytes.bytes c.args.b.now) (g.A.Bytes.bytes c.args.a.now) (c.len-m.result - c.len-n.result + 1) c.loop-i.i (omega arith) (sym c.if-stands_at.ensures)
 
 pub returns : goal.returns
 returns g c = sym (c.loop-i.invariant ∙ place_over (g.B.Bytes.bytes c.args.b.now) (g.A.Bytes.bytes c.args.a.now) (c.len-m.result - c.len-n.result + 1) c.loop-i.i (omega arith))

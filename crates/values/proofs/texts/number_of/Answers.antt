@@ -5,8 +5,8 @@ use Rattle.values.proofs.Reckoning.{negative_is}
 use Rattle.values.proofs.Reading.{number_above, number_below, plainly}
 use Rattle.values.proofs.texts.number_of.Goals as goal
 
-pub overflow-cast-result : goal.overflow-cast-result
-overflow-cast-result g c = record { sfits = omega (arith, (plainly (g.T.Bytes.bytes c.args.t.now) c.in-Some.n c.in-Some.ensures).small) }
+pub overflow_cast-result : goal.overflow_cast-result
+overflow_cast-result g c = record { sfits = omega (arith, (plainly (g.T.Bytes.bytes c.args.t.now) c.in-Some.n c.in-Some.ensures).small) }
 
 pub returns-in-Some : goal.returns-in-Some
 returns-in-Some g c =
@@ -16,13 +16,13 @@ returns-in-Some g c =
 
 pub returns-then-first-start : goal.returns-then-first-start
 returns-then-first-start g c =
-    ap number (omega (arith, ints, c.leading-from-n.ensures.small)) ∙ sym (negative_is c.leading-from-n.result)
-    ∙ sym (number_below (g.T.Bytes.bytes c.args.t.now) c.past-start.result c.past-minus-first.result c.past-start.ensures c.past-minus-first.ensures
-    c.leading-from-n.result c.leading-from-n.ensures.worth c.if-first-start.true)
+    ap number (omega (arith, ints, c.leading_from-n.ensures.small)) ∙ sym (negative_is c.leading_from-n.result)
+    ∙ sym (number_below (g.T.Bytes.bytes c.args.t.now) c.past-start.result c.past_minus-first.result c.past-start.ensures c.past_minus-first.ensures
+    c.leading_from-n.result c.leading_from-n.ensures.worth c.if-first-start.true)
 
 pub returns-else-first-start : goal.returns-else-first-start
 returns-else-first-start g c =
-    let e : to_z w64 c.leading-from-n.result ≡ pos c.leading-from-n.result = omega (arith, ints, c.leading-from-n.ensures.small) in
+    let e : to_z w64 c.leading_from-n.result ≡ pos c.leading_from-n.result = omega (arith, ints, c.leading_from-n.ensures.small) in
     ap number e
-    ∙ sym (number_above (g.T.Bytes.bytes c.args.t.now) c.past-start.result c.past-minus-first.result c.past-start.ensures c.past-minus-first.ensures
-    c.leading-from-n.result c.leading-from-n.ensures.worth c.if-first-start.false)
+    ∙ sym (number_above (g.T.Bytes.bytes c.args.t.now) c.past-start.result c.past_minus-first.result c.past-start.ensures c.past_minus-first.ensures
+    c.leading_from-n.result c.leading_from-n.ensures.worth c.if-first-start.false)

@@ -10,25 +10,25 @@ returns-then-count-eq0 g c = plain_empty (g.T.Bytes.bytes c.args.t.now) (omega a
 pub returns-then-count-gt-DIGITS : goal.returns-then-count-gt-DIGITS
 returns-then-count-gt-DIGITS g c = plain_long (g.T.Bytes.bytes c.args.t.now) (omega arith)
 
-pub returns-then-not-is-digit : goal.returns-then-not-is-digit
-returns-then-not-is-digit g c =
-    plain_other (g.T.Bytes.bytes c.args.t.now) c.loop-k.k (omega arith) c.loop-k.invariant.2 (ap digit (sym c.at-b.ensures) ∙ sym c.if-not-is-digit.ensures)
+pub returns-then-not-is_digit : goal.returns-then-not-is_digit
+returns-then-not-is_digit g c =
+    plain_other (g.T.Bytes.bytes c.args.t.now) c.loop-k.k (omega arith) c.loop-k.invariant.2 (ap digit (sym c.at-b.ensures) ∙ sym c.if-not-is_digit.ensures)
 
-pub overflow-mul-n : goal.overflow-mul-n
-overflow-mul-n g c = omega (arith, under c.loop-k.k c.loop-k.n (omega arith) c.loop-k.invariant.0)
+pub overflow_mul-n : goal.overflow_mul-n
+overflow_mul-n g c = omega (arith, under c.loop-k.k c.loop-k.n (omega arith) c.loop-k.invariant.0)
 
-pub overflow-add-n : goal.overflow-add-n
-overflow-add-n g c = omega (arith, under c.loop-k.k c.loop-k.n (omega arith) c.loop-k.invariant.0)
+pub overflow_add-n : goal.overflow_add-n
+overflow_add-n g c = omega (arith, under c.loop-k.k c.loop-k.n (omega arith) c.loop-k.invariant.0)
 
 pub loop-k-preserved : goal.loop-k-preserved
 loop-k-preserved g c = (
-  rw (add-one, pow-suc) (omega (arith, c.loop-k.invariant.0, digit_low c.at-b.result (sym c.if-not-is-digit.ensures))),
+  rw (add-one, pow-suc) (omega (arith, c.loop-k.invariant.0, digit_low c.at-b.result (sym c.if-not-is_digit.ensures))),
   c.loop-k.invariant.1
       ∙ lead_more (g.T.Bytes.bytes c.args.t.now) 0 c.loop-k.k c.loop-k.n (omega arith) (omega arith)
-      (rw zero-add (ap digit (sym c.at-b.ensures) ∙ sym c.if-not-is-digit.ensures))
+      (rw zero-add (ap digit (sym c.at-b.ensures) ∙ sym c.if-not-is_digit.ensures))
       ∙ rw (zero-add, ← c.at-b.ensures),
   c.loop-k.invariant.2
-      ∙ run_more digit (g.T.Bytes.bytes c.args.t.now) c.loop-k.k (omega arith) (ap digit (sym c.at-b.ensures) ∙ sym c.if-not-is-digit.ensures),
+      ∙ run_more digit (g.T.Bytes.bytes c.args.t.now) c.loop-k.k (omega arith) (ap digit (sym c.at-b.ensures) ∙ sym c.if-not-is_digit.ensures),
 )
 
 pub returns : goal.returns
