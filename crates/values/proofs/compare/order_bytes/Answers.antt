@@ -1,4 +1,5 @@
-use Rattle.std.proofs.Common.{Less, Greater, arith}
+use Rattle.std.proofs.Common.{length, Less, Greater, arith}
+use Rattle.std.proofs.lemmas.Cmp.{ranked}
 use Rattle.values.proofs.Comparing.{bytes_less, bytes_greater, bytes_same, bytes_over}
 use Rattle.values.proofs.compare.order_bytes.Goals as goal
 
@@ -15,4 +16,4 @@ loop-i-preserved g c = λ o r.
     c.loop-i.invariant o (bytes_same (g.A.Bytes.bytes c.args.a.now) (g.B.Bytes.bytes c.args.b.now) c.loop-i.i (omega arith) (omega arith) o (omega arith) r)
 
 pub returns : goal.returns
-returns g c = c.loop-i.invariant c.cmp.result (bytes_over (g.A.Bytes.bytes c.args.a.now) (g.B.Bytes.bytes c.args.b.now) c.loop-i.i (omega arith) c.cmp.result (simp (c.len-m.ensures, c.len-n.ensures) at c.cmp.ensures))
+returns g c = c.loop-i.invariant c.cmp.result (bytes_over (g.A.Bytes.bytes c.args.a.now) (g.B.Bytes.bytes c.args.b.now) c.loop-i.i (omega arith) c.cmp.result (ranked (length (g.A.Bytes.bytes c.args.a.now)) (length (g.B.Bytes.bytes c.args.b.now)) c.cmp.result (simp (c.len-m.ensures, c.len-n.ensures) at c.cmp.ensures)))
