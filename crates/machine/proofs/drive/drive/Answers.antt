@@ -9,7 +9,7 @@ returns-then-program-gt-ROW g c = (c.if-program-gt-ROW.true, refl)
 
 pub run-requires : goal.run-requires
 unfolding own
-run-requires g c = (c.as-mut-slice.ensures.value ∙ c.in-Ok.ensures.items-if-clones-equal (λ y e. e), c.if-program-gt-ROW.false)
+run-requires g c = (c.as_mut_slice.ensures.value ∙ c.in-Ok.ensures.items_if_clones_equal (λ y e. e), c.if-program-gt-ROW.false)
 
 pub returns-in-Err : goal.returns-in-Err
 unfolding EndedSo
