@@ -31,16 +31,16 @@ returns-in-Quoted c =
     (made_txt bs c.args.work.now c.make-in-Quoted.new.work c.args.s.nodes c.requires.1.low q b (record { inside = e.1; is = refl }) c.make-in-Quoted.ensures.made)
     (λ fs l. first_token bs p (quoted b) (λ us. before (fuel bs) fs us) (λ us. behind (fuel bs) fs 8 (txt b) us) e.0 (op_text (fuel bs) fs l b))
 
-pub begin-name-requires : goal.begin-name-requires
-begin-name-requires c =
+pub begin_name-requires : goal.begin_name-requires
+begin_name-requires c =
     let e = c.in-Name.ensures c.args.text.now c.requires.0.tokens in
     (c.requires.0, (c.requires.1, record { is = e.0; fresh = e.1; inside = e.2 }))
 
-pub begin-word-requires : goal.begin-word-requires
-begin-word-requires c = (c.requires.0, (c.requires.1, c.in-Keyword.ensures c.args.text.now c.requires.0.tokens))
+pub begin_word-requires : goal.begin_word-requires
+begin_word-requires c = (c.requires.0, (c.requires.1, c.in-Keyword.ensures c.args.text.now c.requires.0.tokens))
 
-pub begin-sign-requires : goal.begin-sign-requires
-begin-sign-requires c = (c.requires.0, (c.requires.1, c.in-Sign.ensures c.args.text.now c.requires.0.tokens))
+pub begin_sign-requires : goal.begin_sign-requires
+begin_sign-requires c = (c.requires.0, (c.requires.1, c.in-Sign.ensures c.args.text.now c.requires.0.tokens))
 
 pub returns-in-Over : goal.returns-in-Over
 returns-in-Over c =

@@ -33,8 +33,8 @@ returns-in-36 c =
     let bs = c.args.text.now in
     begin_sign bs c.args.work.now c.push-in-36.new.work c.args.count c.args.s c.requires.1.0 36 _ c.push-in-36.result c.requires.0.tokens c.push-in-36.ensures (here bs c.args.s.place c.args.d 36 c.in-36.is c.requires.1.1) in_field refl (op_field (fuel bs))
 
-pub returns-in-default : goal.returns-in-default
-returns-in-default c =
+pub returns-in_default : goal.returns-in_default
+returns-in_default c =
     let bs = c.args.text.now in
     let p = c.args.s.place in
     let d = c.args.d in

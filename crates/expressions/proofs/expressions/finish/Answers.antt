@@ -35,12 +35,12 @@ returns-in-Infix c =
     let s = c.args.s in
     let w = c.make in
     let q = c.in-Infix in
-    end_grown bs m w.new.work c.args.count s c.args.node (Infix q.level q.o q.left) c.requires.0.tokens c.requires.1 (record { deep = omega arith; is = q.ensures }) _ c.infix-plain-plain.result c.high_of.result w.result w.ensures
+    end_grown bs m w.new.work c.args.count s c.args.node (Infix q.level q.o q.left) c.requires.0.tokens c.requires.1 (record { deep = omega arith; is = q.ensures }) _ c.infix_plain-plain.result c.high_of.result w.result w.ensures
     (λ a t b x.
-    let e : c.infix-plain-plain.result ≡ (not (eqb (operator_number q.o) 12) && (plain_term x.1 && plain_term a)) = c.infix-plain-plain.ensures ∙ ap₂ (λ u v. not (eqb (operator_number q.o) 12) && (u && v)) (plain_is bs m s.nodes q.left x.1 x.4) (plain_is bs m s.nodes c.args.node a t) in
+    let e : c.infix_plain-plain.result ≡ (not (eqb (operator_number q.o) 12) && (plain_term x.1 && plain_term a)) = c.infix_plain-plain.ensures ∙ ap₂ (λ u v. not (eqb (operator_number q.o) 12) && (u && v)) (plain_is bs m s.nodes q.left x.1 x.4) (plain_is bs m s.nodes c.args.node a t) in
     let h : c.high_of.result ≡ high_of x.0 = c.high_of.ensures ∙ high_is x.0 q.level x.2 in (
       bin (operator_number q.o) x.1 a,
-      made_bin bs m w.new.work s.nodes c.requires.1.low q.o q.left c.args.node c.infix-plain-plain.result x.1 a e x.4 t,
+      made_bin bs m w.new.work s.nodes c.requires.1.low q.o q.left c.args.node c.infix_plain-plain.result x.1 a e x.4 t,
       (let u = high_small x.0 x.3 in omega (arith, h)),
       (λ fs. ap (λ u. behind (fuel bs) fs u (bin (operator_number q.o) x.1 a) (toks bs s.place)) h ∙ ap (λ h. resume (fuel bs) (h ∷ fs) a (toks bs s.place)) (sym x.5)),
     ))
@@ -53,10 +53,10 @@ returns-in-Prefixed c =
     let s = c.args.s in
     let w = c.make-in-Prefixed in
     let q = c.in-Prefixed in
-    end_grown bs m w.new.work c.args.count s c.args.node (Prefixed q.p) c.requires.0.tokens c.requires.1 (record { deep = omega arith; is = q.ensures }) _ c.prefix-plain-plain.result 8 w.result w.ensures
+    end_grown bs m w.new.work c.args.count s c.args.node (Prefixed q.p) c.requires.0.tokens c.requires.1 (record { deep = omega arith; is = q.ensures }) _ c.prefix_plain-plain.result 8 w.result w.ensures
     (λ a t b x.
-    let e : c.prefix-plain-plain.result ≡ (leb (prefix_number q.p) 1 && plain_term a) = c.prefix-plain-plain.ensures ∙ ap (λ u. leb (prefix_number q.p) 1 && u) (plain_is bs m s.nodes c.args.node a t) in
-    (un (prefix_number q.p) a, made_un bs m w.new.work s.nodes c.requires.1.low q.p c.args.node c.prefix-plain-plain.result a e t, omega arith, (λ fs. ap (λ h. resume (fuel bs) (h ∷ fs) a (toks bs s.place)) (sym (x)))))
+    let e : c.prefix_plain-plain.result ≡ (leb (prefix_number q.p) 1 && plain_term a) = c.prefix_plain-plain.ensures ∙ ap (λ u. leb (prefix_number q.p) 1 && u) (plain_is bs m s.nodes c.args.node a t) in
+    (un (prefix_number q.p) a, made_un bs m w.new.work s.nodes c.requires.1.low q.p c.args.node c.prefix_plain-plain.result a e t, omega arith, (λ fs. ap (λ h. resume (fuel bs) (h ∷ fs) a (toks bs s.place)) (sym (x)))))
 
 pub returns-in-Dollar : goal.returns-in-Dollar
 unfolding resume FrameSays
@@ -66,10 +66,10 @@ returns-in-Dollar c =
     let s = c.args.s in
     let w = c.make-in-Dollar in
     let q = c.in-Dollar in
-    end_grown bs m w.new.work c.args.count s c.args.node Dollar c.requires.0.tokens c.requires.1 (record { deep = omega arith; is = q.ensures }) _ c.is-plain-plain.result 8 w.result w.ensures
+    end_grown bs m w.new.work c.args.count s c.args.node Dollar c.requires.0.tokens c.requires.1 (record { deep = omega arith; is = q.ensures }) _ c.is_plain-plain.result 8 w.result w.ensures
     (λ a t b x.
-    let e : c.is-plain-plain.result ≡ plain_term a = c.is-plain-plain.ensures ∙ plain_is bs m s.nodes c.args.node a t in
-    (field a, made_field bs m w.new.work s.nodes c.requires.1.low c.args.node c.is-plain-plain.result a e t, omega arith, (λ fs. ap (λ h. resume (fuel bs) (h ∷ fs) a (toks bs s.place)) (sym (x)))))
+    let e : c.is_plain-plain.result ≡ plain_term a = c.is_plain-plain.ensures ∙ plain_is bs m s.nodes c.args.node a t in
+    (field a, made_field bs m w.new.work s.nodes c.requires.1.low c.args.node c.is_plain-plain.result a e t, omega arith, (λ fs. ap (λ h. resume (fuel bs) (h ∷ fs) a (toks bs s.place)) (sym (x)))))
 
 pub returns-in-Assigning : goal.returns-in-Assigning
 unfolding resume FrameSays
@@ -79,10 +79,10 @@ returns-in-Assigning c =
     let s = c.args.s in
     let w = c.make-in-Assigning in
     let q = c.in-Assigning in
-    end_grown bs m w.new.work c.args.count s c.args.node (Assigning q.left) c.requires.0.tokens c.requires.1 (record { deep = omega arith; is = q.ensures }) _ c.both-plain-plain.result 0 w.result w.ensures
+    end_grown bs m w.new.work c.args.count s c.args.node (Assigning q.left) c.requires.0.tokens c.requires.1 (record { deep = omega arith; is = q.ensures }) _ c.both_plain-plain.result 0 w.result w.ensures
     (λ a t b x.
-    let e : c.both-plain-plain.result ≡ (plain_term x.0 && plain_term a) = c.both-plain-plain.ensures ∙ ap₂ (λ u v. u && v) (plain_is bs m s.nodes q.left x.0 x.1) (plain_is bs m s.nodes c.args.node a t) in
-    (put_in x.0 a, made_set bs m w.new.work s.nodes c.requires.1.low q.left c.args.node c.both-plain-plain.result x.0 a e x.1 t, omega arith, (λ fs. ap (λ h. resume (fuel bs) (h ∷ fs) a (toks bs s.place)) (sym x.2))))
+    let e : c.both_plain-plain.result ≡ (plain_term x.0 && plain_term a) = c.both_plain-plain.ensures ∙ ap₂ (λ u v. u && v) (plain_is bs m s.nodes q.left x.0 x.1) (plain_is bs m s.nodes c.args.node a t) in
+    (put_in x.0 a, made_set bs m w.new.work s.nodes c.requires.1.low q.left c.args.node c.both_plain-plain.result x.0 a e x.1 t, omega arith, (λ fs. ap (λ h. resume (fuel bs) (h ∷ fs) a (toks bs s.place)) (sym x.2))))
 
 pub returns-in-Indexing : goal.returns-in-Indexing
 unfolding resume FrameSays
@@ -172,14 +172,14 @@ returns-in-SwapFirst c =
     end_part bs m w.new.work c.args.count s c.args.node (SwapFirst q.q) c.requires.0.tokens c.requires.1 (record { deep = omega arith; is = q.ensures }) _ w.result (w.ensures bs c.requires.0.tokens)
     (λ a t b x. (in_swap_by x.0 a, (x.0, a, x.1, t, refl), (λ fs. ap (λ h. resume (fuel bs) (h ∷ fs) a (toks bs s.place)) (sym x.2))))
 
-pub finish-group-requires : goal.finish-group-requires
-finish-group-requires c = (c.requires.0, (c.requires.1, record { deep = omega arith; is = c.in-Group.ensures }))
+pub finish_group-requires : goal.finish_group-requires
+finish_group-requires c = (c.requires.0, (c.requires.1, record { deep = omega arith; is = c.in-Group.ensures }))
 
-pub finish-split-requires : goal.finish-split-requires
-finish-split-requires c = (c.requires.0, (c.requires.1, record { deep = omega arith; is = c.in-SplitFirst.ensures }))
+pub finish_split-requires : goal.finish_split-requires
+finish_split-requires c = (c.requires.0, (c.requires.1, record { deep = omega arith; is = c.in-SplitFirst.ensures }))
 
-pub finish-swap-requires : goal.finish-swap-requires
-finish-swap-requires c = (c.requires.0, (c.requires.1, record { deep = omega arith; is = c.in-SwapSecond.ensures }))
+pub finish_swap-requires : goal.finish_swap-requires
+finish_swap-requires c = (c.requires.0, (c.requires.1, record { deep = omega arith; is = c.in-SwapSecond.ensures }))
 
-pub finish-argument-requires : goal.finish-argument-requires
-finish-argument-requires c = (c.requires.0, (c.requires.1, record { deep = omega arith; is = c.in-Arguments.ensures }))
+pub finish_argument-requires : goal.finish_argument-requires
+finish_argument-requires c = (c.requires.0, (c.requires.1, record { deep = omega arith; is = c.in-Arguments.ensures }))

@@ -9,13 +9,13 @@ use Rattle.expressions.proofs.Operands.{past_is, past_none}
 use Rattle.expressions.proofs.Endings.{topmost, resumed, end_fail}
 use Rattle.expressions.proofs.expressions.finish_group.Goals as goal
 
-pub returns-then-not-is-sign : goal.returns-then-not-is-sign
+pub returns-then-not-is_sign : goal.returns-then-not-is_sign
 unfolding resume FrameSays
-returns-then-not-is-sign c =
+returns-then-not-is_sign c =
     let bs = c.args.text.now in
     let ts = toks bs c.args.s.place in
     end_fail bs c.args.work.now c.args.count c.args.s c.args.node Group c.requires.1.1 (λ a t b x fs.
-    sym (past_none 41 ts (λ us. behind (fuel bs) fs 8 a us) (sym (c.if-not-is-sign.ensures bs c.requires.0.tokens))) ∙ ap (λ h. resume (fuel bs) (h ∷ fs) a ts) (sym x))
+    sym (past_none 41 ts (λ us. behind (fuel bs) fs 8 a us) (sym (c.if-not-is_sign.ensures bs c.requires.0.tokens))) ∙ ap (λ h. resume (fuel bs) (h ∷ fs) a ts) (sym x))
 
 pub returns : goal.returns
 unfolding resume FrameSays
@@ -30,7 +30,7 @@ returns c =
     let k = c.requires.0.tokens in
     let P = Ended bs m s c.args.node in
     let d = o.deep in
-    let t : sees 41 (toks bs p) ≡ true = sym (c.if-not-is-sign.ensures bs k) in
+    let t : sees 41 (toks bs p) ≡ true = sym (c.if-not-is_sign.ensures bs k) in
     let a : p < c.args.count = sees_ahead bs m c.args.count p 41 k t in
     record {
       kept = nothing_written n m;

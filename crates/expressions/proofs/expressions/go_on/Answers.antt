@@ -11,7 +11,7 @@ bind-requires c = (
   (
     c.requires.1,
     binds_from c.args.text.now c.args.work.now c.args.s c.args.node c.args.high c.peek-token.result c.level-here.result
-        (c.peek-token.ensures c.args.text.now c.requires.0.tokens) (c.level-here.ensures ∙ ap (level_at c.peek-token.result) c.is-place.ensures) (sym c.if-binds.ensures),
+        (c.peek-token.ensures c.args.text.now c.requires.0.tokens) (c.level-here.ensures ∙ ap (level_at c.peek-token.result) c.is_place.ensures) (sym c.if-binds.ensures),
   ),
 )
 
@@ -21,5 +21,5 @@ returns-else-binds c =
     let m = c.args.work.now in
     let s = c.args.s in
     goes_after bs m m c.finish.new.work c.args.count s.nodes s.nodes (effort c.args.count s + 3) (effort c.args.count s + 3) (Behind bs m s c.args.node c.args.high) (Ended bs m s c.args.node) c.finish.result (omega arith) c.requires.1.low (omega arith) (nothing_written s.nodes m)
-    (λ g y. ends_from bs m s c.args.node c.args.high c.peek-token.result c.level-here.result g (c.peek-token.ensures bs c.requires.0.tokens) (c.level-here.ensures ∙ ap (level_at c.peek-token.result) c.is-place.ensures) (sym c.if-binds.ensures) y)
+    (λ g y. ends_from bs m s c.args.node c.args.high c.peek-token.result c.level-here.result g (c.peek-token.ensures bs c.requires.0.tokens) (c.level-here.ensures ∙ ap (level_at c.peek-token.result) c.is_place.ensures) (sym c.if-binds.ensures) y)
     c.finish.ensures

@@ -62,6 +62,6 @@ pub returns-in-115 : goal.returns-in-115
 unfolding frame_of
 returns-in-115 c = search rules
 
-pub returns-in-default : goal.returns-in-default
+pub returns-in_default : goal.returns-in_default
 unfolding frame_of
-returns-in-default c = search rules
+returns-in_default c = search rules

@@ -6,6 +6,6 @@ pub returns-in-31 : goal.returns-in-31
 unfolding list_of
 returns-in-31 c = rw (← c.load-c.ensures, c.in-31.is) refl
 
-pub returns-in-default : goal.returns-in-default
+pub returns-in_default : goal.returns-in_default
 unfolding list_of
-returns-in-default c = rw (← c.load-c.ensures, ne_eqb c.load-c.result.kind 31 (λ e. omega arith)) refl
+returns-in_default c = rw (← c.load-c.ensures, ne_eqb c.load-c.result.kind 31 (λ e. omega arith)) refl

@@ -54,6 +54,6 @@ pub returns-in-23 : goal.returns-in-23
 unfolding term_of
 returns-in-23 c = search rules
 
-pub returns-in-default : goal.returns-in-default
+pub returns-in_default : goal.returns-in_default
 unfolding term_of
-returns-in-default c = search rules
+returns-in_default c = search rules
