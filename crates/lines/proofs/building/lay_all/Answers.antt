@@ -12,25 +12,25 @@ pub lay-requires : goal.lay-requires
 lay-requires c = (
   omega arith,
   (
-    omega (arith, c.free-buffer-start.ensures, buffer_below c.args.line),
-    room_left (parts c.args.mem.now).fields (parts c.loop-i.mem).fields c.args.line c.args.n c.args.len c.args.count c.loop-i.i c.loop-i.at c.piece-for-p.result (omega arith) c.piece-for-p.ensures
+    omega (arith, c.free_buffer-start.ensures, buffer_below c.args.line),
+    room_left (parts c.args.mem.now).fields (parts c.loop-i.mem).fields c.args.line c.args.n c.args.len c.args.count c.loop-i.i c.loop-i.at c.piece_for-p.result (omega arith) c.piece_for-p.ensures
         (c.loop-i.invariant.2 c.loop-i.i (omega arith)) c.loop-i.invariant.1 c.requires.1,
   ),
 )
 
-pub overflow-add-at : goal.overflow-add-at
-overflow-add-at c =
+pub overflow_add-at : goal.overflow_add-at
+overflow_add-at c =
     omega (
       arith,
-      room_left (parts c.args.mem.now).fields (parts c.loop-i.mem).fields c.args.line c.args.n c.args.len c.args.count c.loop-i.i c.loop-i.at c.piece-for-p.result (omega arith) c.piece-for-p.ensures
+      room_left (parts c.args.mem.now).fields (parts c.loop-i.mem).fields c.args.line c.args.n c.args.len c.args.count c.loop-i.i c.loop-i.at c.piece_for-p.result (omega arith) c.piece_for-p.ensures
           (c.loop-i.invariant.2 c.loop-i.i (omega arith)) c.loop-i.invariant.1 c.requires.1,
     )
 
-pub overflow-add-at-in-loop-i : goal.overflow-add-at-in-loop-i
-overflow-add-at-in-loop-i c =
+pub overflow_add-at-in-loop-i : goal.overflow_add-at-in-loop-i
+overflow_add-at-in-loop-i c =
     omega (
       arith,
-      room_left (parts c.args.mem.now).fields (parts c.loop-i.mem).fields c.args.line c.args.n c.args.len c.args.count c.loop-i.i c.loop-i.at c.piece-for-p.result (omega arith) c.piece-for-p.ensures
+      room_left (parts c.args.mem.now).fields (parts c.loop-i.mem).fields c.args.line c.args.n c.args.len c.args.count c.loop-i.i c.loop-i.at c.piece_for-p.result (omega arith) c.piece_for-p.ensures
           (c.loop-i.invariant.2 c.loop-i.i (omega arith)) c.loop-i.invariant.1 c.requires.1,
     )
 
@@ -40,14 +40,14 @@ loop-i-preserved c =
     let p : Parts = parts c.loop-i.mem in
     let q : Parts = parts c.lay.new.mem in
     let i : ℕ = c.loop-i.i in
-    let x : c.piece-for-p.result ≡ piece_of ws c.args.line c.args.n c.args.len i = c.piece-for-p.ensures ∙ same_piece p.fields ws c.args.line c.args.n c.args.len i (c.loop-i.invariant.2 i (omega arith)) in
+    let x : c.piece_for-p.result ≡ piece_of ws c.args.line c.args.n c.args.len i = c.piece_for-p.ensures ∙ same_piece p.fields ws c.args.line c.args.n c.args.len i (c.loop-i.invariant.2 i (omega arith)) in
     let e = total_turn ws c.args.line c.args.n c.args.len c.args.count i (omega arith) in
-    let f : q ≡ laid_one p (buffer_of c.args.line) i c.loop-i.at c.piece-for-p.result = c.lay.ensures ∙ ap (λ b. laid_one p b i c.loop-i.at c.piece-for-p.result) c.free-buffer-start.ensures in (
-      c.loop-i.invariant.0 ∙ laid_turn p q (buffer_of c.args.line) i c.loop-i.at c.piece-for-p.result ws c.args.line c.args.n c.args.len c.args.count (omega arith) x f,
+    let f : q ≡ laid_one p (buffer_of c.args.line) i c.loop-i.at c.piece_for-p.result = c.lay.ensures ∙ ap (λ b. laid_one p b i c.loop-i.at c.piece_for-p.result) c.free_buffer-start.ensures in (
+      c.loop-i.invariant.0 ∙ laid_turn p q (buffer_of c.args.line) i c.loop-i.at c.piece_for-p.result ws c.args.line c.args.n c.args.len c.args.count (omega arith) x f,
       omega (arith, c.loop-i.invariant.1, ap (λ y. y.room) x),
       λ j h.
           let ne : j ≢ i = omega arith in
-          ap (λ y. get_or y.fields j 0) f ∙ get_or-set_other p.fields i j (place_word (place c.loop-i.at c.piece-for-p.result.room)) 0 ne ∙ c.loop-i.invariant.2 j (omega arith),
+          ap (λ y. get_or y.fields j 0) f ∙ get_or-set_other p.fields i j (place_word (place c.loop-i.at c.piece_for-p.result.room)) 0 ne ∙ c.loop-i.invariant.2 j (omega arith),
     )
 
 pub returns : goal.returns

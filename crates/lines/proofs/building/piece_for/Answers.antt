@@ -8,4 +8,4 @@ pub returns-then-i-n : goal.returns-then-i-n
 returns-then-i-n c = sym (piece_gap (parts c.args.mem.now).fields c.args.line c.args.n c.args.len c.args.i c.if-i-n.true)
 
 pub returns : goal.returns
-returns c = ap copied c.nth-field-old.ensures ∙ sym (piece_copied (parts c.args.mem.now).fields c.args.line c.args.n c.args.len c.args.i c.if-i-n.false)
+returns c = ap copied c.nth_field-old.ensures ∙ sym (piece_copied (parts c.args.mem.now).fields c.args.line c.args.n c.args.len c.args.i c.if-i-n.false)

@@ -26,7 +26,7 @@ returns g c =
     let b : Some c.in-Some.new ≡ built p c.args.line c.args.n (length v) = sym c.in-Some.is ∙ c.build.ensures.line ∙ ap (built p c.args.line c.args.n) c.len.ensures in
     record {
       filled =
-          c.put-text.ensures ∙ ap (λ x. with_lines q (put_bytes q.lines x.start v)) c.nth-field-gap.ensures
+          c.put_text.ensures ∙ ap (λ x. with_lines q (put_bytes q.lines x.start v)) c.nth_field-gap.ensures
           ∙ ap (λ x. filled x c.in-Some.new c.args.n v) (c.build.ensures.laid ∙ ap (after_built p c.args.line c.args.n) c.len.ensures)
           ∙ ap (λ x. filled_if x (after_built p c.args.line c.args.n (length v)) c.args.n v) b;
       line = b;

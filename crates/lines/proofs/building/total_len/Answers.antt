@@ -11,14 +11,14 @@ returns-then-p-sum c =
     let ws : List ℕ = (parts c.args.mem.now).fields in
     let t : ℕ = total (pieces ws c.args.line c.args.n c.args.len c.args.count 0) in
     let h : 65536 < t =
-    omega (arith, c.loop-i.invariant.1, total_turn ws c.args.line c.args.n c.args.len c.args.count c.loop-i.i (omega arith), ap (λ x. x.room) c.piece-for-p.ensures) in
+    omega (arith, c.loop-i.invariant.1, total_turn ws c.args.line c.args.n c.args.len c.args.count c.loop-i.i (omega arith), ap (λ x. x.room) c.piece_for-p.ensures) in
     ap (λ b. pick b (Some t) None) (sym (lt-leb t 65536 h))
 
 pub loop-i-preserved : goal.loop-i-preserved
 loop-i-preserved c =
     let ws : List ℕ = (parts c.args.mem.now).fields in
     let e = total_turn ws c.args.line c.args.n c.args.len c.args.count c.loop-i.i (omega arith) in
-    let r = ap (λ x. x.room) c.piece-for-p.ensures in
+    let r = ap (λ x. x.room) c.piece_for-p.ensures in
     (omega arith, omega (arith, c.loop-i.invariant.1))
 
 pub returns : goal.returns

@@ -7,8 +7,8 @@ pub returns-then-cut : goal.returns-then-cut
 returns-then-cut c =
     let p = parts c.args.mem.now in
     record {
-      noted = c.set-field.ensures ∙ ap (with_fields p) (sym (words_ended p.fields c.args.cut c.if-cut.true));
-      count = c.saturating-add.ensures ∙ sym (count_ended c.args.cut c.if-cut.true);
+      noted = c.set_field.ensures ∙ ap (with_fields p) (sym (words_ended p.fields c.args.cut c.if-cut.true));
+      count = c.saturating_add.ensures ∙ sym (count_ended c.args.cut c.if-cut.true);
     }
 
 pub returns-else-cut : goal.returns-else-cut

@@ -8,7 +8,7 @@ use Rattle.lines.proofs.Passing.{window_length, passes_other, above_blank, pass_
 use Rattle.lines.proofs.input.scan_on.Goals as goal
 
 pub loop-c-smaller : goal.loop-c-smaller
-loop-c-smaller c = omega (arith, ap (λ x. x.at) c.pass-c.ensures.cut, pass_at c.byte-within-b.result (cuts_of (parts c.loop-c.mem).fields c.loop-c.c))
+loop-c-smaller c = omega (arith, ap (λ x. x.at) c.pass-c.ensures.cut, pass_at c.byte_within-b.result (cuts_of (parts c.loop-c.mem).fields c.loop-c.c))
 
 pub loop-c-preserved : goal.loop-c-preserved
 loop-c-preserved c =
@@ -19,8 +19,8 @@ loop-c-preserved c =
     let w : List ℕ = window c.args.from c.args.n o.lines in
     let u = window_length c.args.from c.args.n o.lines (lines_length c.args.mem.now c.requires.0) in
     let t : length w ≡ c.args.n = omega arith in
-    let e = byte_of o.lines p.lines c.args.from c.args.n c.loop-c.c.at c.byte-within-b.result c.byte-within-b.ensures (ap (λ x. x.lines) i.1) (omega arith) in (
-      i.0 ∙ scan_turn w p.fields q.fields c.loop-c.c c.pass-c.result c.byte-within-b.result (omega arith) e (λ h. omega arith) (ap (λ x. x.fields) c.pass-c.ensures.noted) c.pass-c.ensures.cut,
+    let e = byte_of o.lines p.lines c.args.from c.args.n c.loop-c.c.at c.byte_within-b.result c.byte_within-b.ensures (ap (λ x. x.lines) i.1) (omega arith) in (
+      i.0 ∙ scan_turn w p.fields q.fields c.loop-c.c c.pass-c.result c.byte_within-b.result (omega arith) e (λ h. omega arith) (ap (λ x. x.fields) c.pass-c.ensures.noted) c.pass-c.ensures.cut,
       fields_only o p q _ _ i.1 c.pass-c.ensures.noted,
     )
 
@@ -33,8 +33,8 @@ loop-c-preserved-then-b-gt32 c =
     let u = window_length c.args.from c.args.n o.lines (lines_length c.args.mem.now c.requires.0) in
     let t : length w ≡ c.args.n = omega arith in
     let s : Cuts = cuts_of p.fields c.loop-c.c in
-    let b : ℕ = c.byte-within-b.result in
-    let e = byte_of o.lines p.lines c.args.from c.args.n c.loop-c.c.at b c.byte-within-b.ensures (ap (λ x. x.lines) i.1) (omega arith) in
+    let b : ℕ = c.byte_within-b.result in
+    let e = byte_of o.lines p.lines c.args.from c.args.n c.loop-c.c.at b c.byte_within-b.ensures (ap (λ x. x.lines) i.1) (omega arith) in
     let f = passes_other b s (above_blank b c.if-b-gt32.true) in
     (i.0 ∙ scan_turn w p.fields p.fields c.loop-c.c (pass_other s).cut b (omega arith) e (λ h. omega arith) (ap (λ x. x.words) (sym f)) (ap (λ x. x.cut) (sym f)), i.1)
 
@@ -47,8 +47,8 @@ returns-then-b-eq10 c =
     let w : List ℕ = window c.args.from c.args.n o.lines in
     let u = window_length c.args.from c.args.n o.lines (lines_length c.args.mem.now c.requires.0) in
     let t : length w ≡ c.args.n = omega arith in
-    let b = byte_of o.lines p.lines c.args.from c.args.n c.loop-c.c.at c.byte-within-b.result c.byte-within-b.ensures (ap (λ x. x.lines) i.1) (omega arith) in
-    let e = i.0 ∙ scan_stop w (cuts_of p.fields c.loop-c.c) c.byte-within-b.result (omega arith) b (omega arith) in
+    let b = byte_of o.lines p.lines c.args.from c.args.n c.loop-c.c.at c.byte_within-b.result c.byte_within-b.ensures (ap (λ x. x.lines) i.1) (omega arith) in
+    let e = i.0 ∙ scan_stop w (cuts_of p.fields c.loop-c.c) c.byte_within-b.result (omega arith) b (omega arith) in
     record {
       noted = fields_only o p q _ _ i.1 c.close.ensures.noted ∙ ap (with_fields o) (ap (λ x. x.fields) c.close.ensures.noted ∙ ap (λ x. x.cuts.words) (sym e));
       cut = ap (cut_of c.loop-c.c.at c.loop-c.c.since) c.close.ensures.count ∙ ap (λ x. x.cuts.cut) (sym e);

@@ -14,18 +14,18 @@ returns c =
     let i : Input = c.args.input.now in
     let p : Parts = parts c.args.mem.now in
     let m : ℕ = i.to - i.from in
-    let n : ℕ = c.len-at-n.result in
+    let n : ℕ = c.len_at-n.result in
     let l = lines_length c.args.mem.now c.requires in
-    let k : n ≡ min m (200704 - i.from) = c.len-at-n.ensures ∙ ap (λ q. min q.len (200704 - q.start)) c.waits.ensures in
+    let k : n ≡ min m (200704 - i.from) = c.len_at-n.ensures ∙ ap (λ q. min q.len (200704 - q.start)) c.waits.ensures in
     let w : List ℕ = waiting i p.lines in
     let t : length w ≡ n = window_length i.from m p.lines l ∙ sym k in
     let bs : List ℕ = c.args.piece.now in
     let z : c.min-k.result - 0 ≡ min (length bs) (69632 - length w) = omega arith in
     let y : take (c.min-k.result - 0) bs ≡ that_fits w bs = take_min (69632 - length w) (c.min-k.result - 0) bs z in
-    let s : parts c.shift-lines.new.mem ≡ with_lines p (put_bytes p.lines 0 w) = c.shift-lines.ensures ∙ ap (λ x. with_lines p (put_bytes p.lines 0 x)) (window_all i.from m n p.lines l k) in
+    let s : parts c.shift_lines.new.mem ≡ with_lines p (put_bytes p.lines 0 w) = c.shift_lines.ensures ∙ ap (λ x. with_lines p (put_bytes p.lines 0 x)) (window_all i.from m n p.lines l k) in
     record {
       lines =
-          c.put-piece.ensures
+          c.put_piece.ensures
           ∙ ap (λ q. with_lines q (put_bytes q.lines n (take (c.min-k.result - 0) bs))) s
           ∙ ap (λ x. with_lines p (put_bytes (put_bytes p.lines 0 w) n x)) y
           ∙ ap (λ x. with_lines p (put_bytes (put_bytes p.lines 0 w) x (that_fits w bs))) (sym t);

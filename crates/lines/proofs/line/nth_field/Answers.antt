@@ -13,6 +13,6 @@ returns-then-n-eq0 c = sym (nth_none (parts c.args.mem.now).fields c.args.line c
 pub returns : goal.returns
 returns c =
     let s = c.args.line.place.start in
-    ap (λ n. place n c.field-at-field.result.len) c.saturating-add.ensures
-    ∙ ap (within s) c.field-at-field.ensures
+    ap (λ n. place n c.field_at-field.result.len) c.saturating_add.ensures
+    ∙ ap (within s) c.field_at-field.ensures
     ∙ sym (nth_some (parts c.args.mem.now).fields c.args.line c.args.n c.if-n-eq0.false c.if-line-n.false)
