@@ -3,6 +3,6 @@ use Rattle.rows.specs.Pens.{Writing, writing}
 use Rattle.rows.proofs.Putting.{at_grows}
 use Rattle.rows.proofs.end_print.Goals as goal
 
-pub overflow-sub-result : goal.overflow-sub-result
-overflow-sub-result c =
-    omega (arith, ap (λ (w : Writing). w.at) c.write-byte-pen.ensures, at_grows (writing c.args.row.now c.args.pen) (10 ∷ []))
+pub overflow_sub-result : goal.overflow_sub-result
+overflow_sub-result c =
+    omega (arith, ap (λ (w : Writing). w.at) c.write_byte-pen.ensures, at_grows (writing c.args.row.now c.args.pen) (10 ∷ []))

@@ -4,4 +4,4 @@ use Rattle.rows.proofs.print_line.Goals as goal
 
 pub returns : goal.returns
 unfolding over_row
-returns c = record { row = ap (λ x. x ++ drop 4096 c.args.out.now) c.row-of-line.ensures.row; came = c.row-of-line.ensures.came }
+returns c = record { row = ap (λ x. x ++ drop 4096 c.args.out.now) c.row_of_line.ensures.row; came = c.row_of_line.ensures.came }

@@ -12,7 +12,7 @@ returns c =
     let p = parts c.args.mem.now in
     record {
       row =
-          ap (λ x. x ++ drop 4096 out) c.row-of-values.ensures.row
-          ∙ ap (λ k. over (take 4096 out) c.args.used (drop c.args.done (printed (worths p k c.args.n))) ++ drop 4096 out) c.saturating-sub.ensures;
-      came = c.row-of-values.ensures.came ∙ ap (λ k. went (printed (worths p k c.args.n)) c.args.done c.args.used) c.saturating-sub.ensures;
+          ap (λ x. x ++ drop 4096 out) c.row_of_values.ensures.row
+          ∙ ap (λ k. over (take 4096 out) c.args.used (drop c.args.done (printed (worths p k c.args.n))) ++ drop 4096 out) c.saturating_sub.ensures;
+      came = c.row_of_values.ensures.came ∙ ap (λ k. went (printed (worths p k c.args.n)) c.args.done c.args.used) c.saturating_sub.ensures;
     }

@@ -11,7 +11,7 @@ pub returns-then-i-eq0 : goal.returns-then-i-eq0
 returns-then-i-eq0 c =
     let p = parts c.args.mem.now in
     let w = writing c.args.row.now c.args.pen in
-    c.write-value.ensures
+    c.write_value.ensures
     ∙ ap (λ v. put w (as_text (worth 77822 p.texts v))) c.stacked-v.ensures
     ∙ ap (put w) (nth_first p c.args.from c.args.i (omega arith))
 
@@ -19,8 +19,8 @@ pub returns : goal.returns
 returns c =
     let p = parts c.args.mem.now in
     let w = writing c.args.row.now c.args.pen in
-    c.write-value-2.ensures
-    ∙ ap (λ x. put x (as_text (worth 77822 p.texts c.stacked-v.result))) c.write-byte-pen.ensures
+    c.write_value-2.ensures
+    ∙ ap (λ x. put x (as_text (worth 77822 p.texts c.stacked-v.result))) c.write_byte-pen.ensures
     ∙ put_put w (32 ∷ []) (as_text (worth 77822 p.texts c.stacked-v.result))
     ∙ ap (λ v. put w (32 ∷ as_text (worth 77822 p.texts v))) c.stacked-v.ensures
     ∙ ap (put w) (nth_later p c.args.from c.args.i (λ e. omega arith))

@@ -15,11 +15,11 @@ returns-in-Unset c =
 pub returns-in-Short : goal.returns-in-Short
 unfolding as_text
 returns-in-Short c =
-    c.write-text_in-Short.ensures
+    c.write_text-in-Short.ensures
     ∙ ap (λ v. put (writing c.args.row.now c.args.pen) (as_text (worth 77822 (parts c.args.mem.now).texts v))) (sym c.in-Short.is)
 
 pub returns-in-Text : goal.returns-in-Text
 unfolding as_text
 returns-in-Text c =
-    c.write-packed.ensures ∙ ap (put (writing c.args.row.now c.args.pen)) c.text-view.ensures
+    c.write_packed.ensures ∙ ap (put (writing c.args.row.now c.args.pen)) c.text_view.ensures
     ∙ ap (λ v. put (writing c.args.row.now c.args.pen) (as_text (worth 77822 (parts c.args.mem.now).texts v))) (sym c.in-Text.is)

@@ -20,7 +20,7 @@ pub loop-i-preserved : goal.loop-i-preserved
 loop-i-preserved c =
     let p = parts c.args.mem.now in
     let w = writing c.args.row.now c.args.start in
-    c.write-nth-pen.ensures ∙ ap (λ x. put x (nth_text p c.args.from c.loop-i.i)) c.loop-i.invariant
+    c.write_nth-pen.ensures ∙ ap (λ x. put x (nth_text p c.args.from c.loop-i.i)) c.loop-i.invariant
     ∙ put_put w (texts p c.args.from c.loop-i.i) (nth_text p c.args.from c.loop-i.i)
     ∙ ap (put w) (sym (texts_more p c.args.from c.loop-i.i))
 

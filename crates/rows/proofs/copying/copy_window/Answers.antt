@@ -9,8 +9,8 @@ returns c =
     let f : ℕ = c.args.from in
     let h : ℕ = c.min-head.result in
     let m : ℕ = (c.args.n - h) / 8 in
-    three c.args.row.now c.args.at ws f c.args.n h m c.copy-out.new.out c.copy-words.new.row c.copy-out-2.new.out
+    three c.args.row.now c.args.at ws f c.args.n h m c.copy_out.new.out c.copy_words.new.row c.copy_out-2.new.out
     (omega arith) (omega arith) (omega arith)
-    c.copy-out.ensures.copied
-    (c.copy-words.ensures ∙ ap (over c.copy-out.new.out (c.args.at + h)) (words_there ws f h c.args.n m (omega arith) (omega arith)))
-    c.copy-out-2.ensures.copied
+    c.copy_out.ensures.copied
+    (c.copy_words.ensures ∙ ap (over c.copy_out.new.out (c.args.at + h)) (words_there ws f h c.args.n m (omega arith) (omega arith)))
+    c.copy_out-2.ensures.copied

@@ -10,7 +10,7 @@ loop-i-init c = sym (over_nothing c.args.row.now c.args.at)
 pub loop-i-preserved : goal.loop-i-preserved
 loop-i-preserved c =
     let ws = c.args.words.now in
-    c.put-word.ensures
+    c.put_word.ensures
     ∙ ap (λ x. over x (c.args.at + 8 * c.loop-i.i) (bytes_of 8 (get_or ws (c.args.q + c.loop-i.i) 0))) c.loop-i.invariant
     ∙ word_more c.args.row.now c.args.at ws c.args.q c.loop-i.i (omega arith) (omega arith)
 

@@ -12,5 +12,5 @@ returns c =
     let bs = bytes_of 8 c.args.w in
     let l = length_bytes 8 c.args.w in
     let e : 8 ≡ min (length bs) (length d - c.args.at) = omega arith in
-    put_mid-paste c.args.at _ d _ bs 8 (c.copy-from-slice.ensures.after ∙ c.to-le-bytes.ensures ∙ word_bytes c.args.w) (omega arith) (omega arith)
+    put_mid-paste c.args.at _ d _ bs 8 (c.copy_from_slice.ensures.after ∙ c.to_le_bytes.ensures ∙ word_bytes c.args.w) (omega arith) (omega arith)
     ∙ ap (paste d c.args.at bs) e

@@ -19,7 +19,7 @@ returns c =
     let g : n ≡ min (t.len - k) (length d - a) = omega arith in
     let copied : c.if-n-gt0.row ≡ over d a (drop k (window t.from t.len ws)) =
     elim c.if-n-gt0.branch [
-      | then-n-gt0 w ↦ w.row-is ∙ w.copy-window.ensures ∙ packed_copied d a ws t.from t.len k n (omega arith) g (omega (arith, w.if-n-gt0.true))
+      | then-n-gt0 w ↦ w.row-is ∙ w.copy_window.ensures ∙ packed_copied d a ws t.from t.len k n (omega arith) g (omega (arith, w.if-n-gt0.true))
       | else-n-gt0 w ↦ w.row-is ∙ over_no_room d a (drop k (window t.from t.len ws)) (omega (arith, w.if-n-gt0.false, length-drop k (window t.from t.len ws)))
     ] in
-    written d a k n c.saturating-sub.result (window t.from t.len ws) c.if-n-gt0.row (omega arith) (omega arith) copied
+    written d a k n c.saturating_sub.result (window t.from t.len ws) c.if-n-gt0.row (omega arith) (omega arith) copied

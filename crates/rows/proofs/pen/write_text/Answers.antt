@@ -4,5 +4,5 @@ use Rattle.rows.proofs.pen.write_text.Goals as goal
 
 pub returns : goal.returns
 returns g c =
-    written c.args.row.now c.args.pen.at c.args.pen.skip _ _ (g.T.Bytes.bytes c.args.t.now) _ c.copy-out-n.ensures.count (omega arith)
-    c.copy-out-n.ensures.copied
+    written c.args.row.now c.args.pen.at c.args.pen.skip _ _ (g.T.Bytes.bytes c.args.t.now) _ c.copy_out-n.ensures.count (omega arith)
+    c.copy_out-n.ensures.copied
