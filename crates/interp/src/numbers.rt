@@ -46,13 +46,13 @@ fn reckon_values(
     requires { (length mem.old ≡ 262144) × ((first ≡ under_of (parts mem.old) regs.old) × (second ≡ top_of (parts mem.old) regs.old)) }
     ensures { ◌≡◌ {A = Did} (record { mem = parts mem.exit.now; regs = regs.new; turn = result }) (figured (operation c) (parts mem.entry.now) regs.old) }
 {
-    let a = number_in(mem, first);
-    let b = number_in(mem, second);
-    match calculate(c, a, b) {
-        Ok(n) => {
+    let m = number_in(mem, first);
+    let n = number_in(mem, second);
+    match calculate(c, m, n) {
+        Ok(got) => {
             release_value(mem, second);
             release_value(mem, first);
-            cover_two(mem, regs, Value::Number(n))
+            cover_two(mem, regs, Value::Number(got))
         }
         Err(trouble) => refusal(trouble),
     }

@@ -27,8 +27,8 @@ fn save_number(mem: &mut [u64], regs: &mut Registers, i: usize, n: i64) -> Turn
     requires { length mem.old ≡ 262144 }
     ensures { ◌≡◌ {A = Did} (record { mem = parts mem.exit.now; regs = regs.new; turn = result }) (says On (slotting (releasing (parts mem.entry.now) (slot_of (parts mem.entry.now) i)) i (Number n)) (placed regs.old (after regs.old.pc) regs.old.depth)) }
 {
-    let old = slot(mem, i);
-    release_value(mem, old);
+    let before = slot(mem, i);
+    release_value(mem, before);
     set_slot(mem, i, Value::Number(n));
     advance(regs);
     Turn::On

@@ -12,7 +12,7 @@ loop-at-init c = (refl, zero-le)
 pub loop-at-preserved : goal.loop-at-preserved
 loop-at-preserved c =
     let l = window_size c.args.mem.now c.args.place.start c.args.place.len c.requires in
-    (grown _ _ _ c.args.h.index c.args.place.start c.args.place.len c.loop-at.at c.min-len.result c.loop-at.invariant.0 c.copy-chunk.ensures (omega arith) (omega arith), omega arith)
+    (grown _ _ _ c.args.h.index c.args.place.start c.args.place.len c.loop-at.at c.min-len.result c.loop-at.invariant.0 c.copy_chunk.ensures (omega arith) (omega arith), omega arith)
 
 pub returns : goal.returns
 returns c =

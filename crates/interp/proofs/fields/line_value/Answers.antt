@@ -4,29 +4,29 @@ use Rattle.regions.specs.Parts.{parts}
 use Rattle.interp.proofs.Copying.{window_size, LineMade, line_short, line_long, line_none}
 use Rattle.interp.proofs.fields.line_value.Goals as goal
 
-pub short-packed-requires : goal.short-packed-requires
-short-packed-requires c =
-    omega (arith, ap length c.line-window.ensures, window_size c.args.mem.now c.args.place.start c.args.place.len c.requires, c.len-at-n.ensures, c.if-n-le-SHORTEST.true)
+pub short_packed-requires : goal.short_packed-requires
+short_packed-requires c =
+    omega (arith, ap length c.line_window.ensures, window_size c.args.mem.now c.args.place.start c.args.place.len c.requires, c.len_at-n.ensures, c.if-n-le-SHORTEST.true)
 
 pub returns-then-n-le-SHORTEST : goal.returns-then-n-le-SHORTEST
 returns-then-n-le-SHORTEST c =
     let l : length (window c.args.place.start c.args.place.len (parts c.args.mem.now).lines) ≤ 8 =
-    omega (arith, window_size c.args.mem.now c.args.place.start c.args.place.len c.requires, c.len-at-n.ensures, c.if-n-le-SHORTEST.true) in
-    let m = line_short (parts c.args.mem.now) (window c.args.place.start c.args.place.len (parts c.args.mem.now).lines) c.short-packed.result l (c.short-packed.ensures ∙ c.line-window.ensures) in
+    omega (arith, window_size c.args.mem.now c.args.place.start c.args.place.len c.requires, c.len_at-n.ensures, c.if-n-le-SHORTEST.true) in
+    let m = line_short (parts c.args.mem.now) (window c.args.place.start c.args.place.len (parts c.args.mem.now).lines) c.short_packed.result l (c.short_packed.ensures ∙ c.line_window.ensures) in
     record { memory = m.memory; value = m.value }
 
 pub returns-in-Some : goal.returns-in-Some
 returns-in-Some c =
-    let e : c.len-at-n.result ≡ length (window c.args.place.start c.args.place.len (parts c.args.mem.now).lines) =
-    omega (arith, window_size c.args.mem.now c.args.place.start c.args.place.len c.requires, c.len-at-n.ensures) in
-    let m = line_long (parts c.args.mem.now) (parts c.new-handle.new.mem) (parts c.copy-line.new.mem) c.in-Some.handle c.args.place.start c.args.place.len c.len-at-n.result
-    e c.if-n-le-SHORTEST.false c.new-handle.ensures.memory c.in-Some.ensures.handle c.copy-line.ensures in
+    let e : c.len_at-n.result ≡ length (window c.args.place.start c.args.place.len (parts c.args.mem.now).lines) =
+    omega (arith, window_size c.args.mem.now c.args.place.start c.args.place.len c.requires, c.len_at-n.ensures) in
+    let m = line_long (parts c.args.mem.now) (parts c.new_handle.new.mem) (parts c.copy_line.new.mem) c.in-Some.handle c.args.place.start c.args.place.len c.len_at-n.result
+    e c.if-n-le-SHORTEST.false c.new_handle.ensures.memory c.in-Some.ensures.handle c.copy_line.ensures in
     record { memory = m.memory; value = m.value }
 
 pub returns-in-None : goal.returns-in-None
 returns-in-None c =
-    let e : c.len-at-n.result ≡ length (window c.args.place.start c.args.place.len (parts c.args.mem.now).lines) =
-    omega (arith, window_size c.args.mem.now c.args.place.start c.args.place.len c.requires, c.len-at-n.ensures) in
-    let m = line_none (parts c.args.mem.now) (parts c.new-handle.new.mem) (window c.args.place.start c.args.place.len (parts c.args.mem.now).lines) c.len-at-n.result
-    e c.if-n-le-SHORTEST.false c.new-handle.ensures.memory c.in-None.ensures.handle in
+    let e : c.len_at-n.result ≡ length (window c.args.place.start c.args.place.len (parts c.args.mem.now).lines) =
+    omega (arith, window_size c.args.mem.now c.args.place.start c.args.place.len c.requires, c.len_at-n.ensures) in
+    let m = line_none (parts c.args.mem.now) (parts c.new_handle.new.mem) (window c.args.place.start c.args.place.len (parts c.args.mem.now).lines) c.len_at-n.result
+    e c.if-n-le-SHORTEST.false c.new_handle.ensures.memory c.in-None.ensures.handle in
     record { memory = m.memory; value = m.value }

@@ -18,10 +18,10 @@ over p r v m n o a e b c =
 
 pub returns-in-Some : goal.returns-in-Some
 returns-in-Some c =
-    let e : to_z w64 (of_z w64 c.number-in.result) ≡ c.number-in.result = search rules in
-    over _ _ _ _ _ (Some c.in-Some.k) c.top-v.ensures e c.number-in.ensures c.in-Some.ensures
+    let e : to_z w64 (of_z w64 c.number_in.result) ≡ c.number_in.result = search rules in
+    over _ _ _ _ _ (Some c.in-Some.k) c.top-v.ensures e c.number_in.ensures c.in-Some.ensures
 
 pub returns-in-None : goal.returns-in-None
 returns-in-None c =
-    let e : to_z w64 (of_z w64 c.number-in.result) ≡ c.number-in.result = search rules in
-    over _ _ _ _ _ None c.top-v.ensures e c.number-in.ensures c.in-None.ensures
+    let e : to_z w64 (of_z w64 c.number_in.result) ≡ c.number_in.result = search rules in
+    over _ _ _ _ _ None c.top-v.ensures e c.number_in.ensures c.in-None.ensures

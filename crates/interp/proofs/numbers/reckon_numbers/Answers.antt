@@ -13,7 +13,7 @@ returns-in-Ok c =
     let a : to_z w64 (of_z w64 c.args.a) ≡ c.args.a = search rules in
     let b : to_z w64 (of_z w64 c.args.b) ≡ c.args.b = search rules in
     let e : to_z w64 (of_z w64 c.in-Ok.n) ≡ c.in-Ok.n = search rules in
-    c.cover-two.ensures
+    c.cover_two.ensures
     ∙ covered (parts c.args.mem.now) c.args.regs.now (Number c.args.a) (Number c.args.b) _ c.requires.1.0 c.requires.1.1 (λ s. refl) (λ s. refl)
     ∙ ap (λ x. replaced_two (parts c.args.mem.now) c.args.regs.now (Number x)) e
     ∙ reckoned_ok c.args.c (parts c.args.mem.now) c.args.regs.now (Number c.args.a) (Number c.args.b) _ _ c.in-Ok.n

@@ -9,31 +9,31 @@ use Rattle.interp.proofs.numbers.reckon_values.Goals as goal
 
 pub returns-in-Ok : goal.returns-in-Ok
 returns-in-Ok c =
-    let a : to_z w64 (of_z w64 c.number-in-a.result) ≡ c.number-in-a.result = search rules in
-    let b : to_z w64 (of_z w64 c.number-in-b.result) ≡ c.number-in-b.result = search rules in
-    let e : to_z w64 (of_z w64 c.in-Ok.n) ≡ c.in-Ok.n = search rules in
-    c.cover-two.ensures
-    ∙ released (parts c.args.mem.now) (parts c.release-value.new.mem) (parts c.release-value-in-Ok.new.mem) c.args.regs.now c.args.first c.args.second _ c.requires.1.0 c.requires.1.1 c.release-value.ensures c.release-value-in-Ok.ensures
+    let a : to_z w64 (of_z w64 c.number_in-m.result) ≡ c.number_in-m.result = search rules in
+    let b : to_z w64 (of_z w64 c.number_in-n.result) ≡ c.number_in-n.result = search rules in
+    let e : to_z w64 (of_z w64 c.in-Ok.got) ≡ c.in-Ok.got = search rules in
+    c.cover_two.ensures
+    ∙ released (parts c.args.mem.now) (parts c.release_value.new.mem) (parts c.release_value-in-Ok.new.mem) c.args.regs.now c.args.first c.args.second _ c.requires.1.0 c.requires.1.1 c.release_value.ensures c.release_value-in-Ok.ensures
     ∙ ap (λ x. replaced_two (parts c.args.mem.now) c.args.regs.now (Number x)) e
-    ∙ reckoned_ok c.args.c (parts c.args.mem.now) c.args.regs.now c.args.first c.args.second _ _ c.in-Ok.n
+    ∙ reckoned_ok c.args.c (parts c.args.mem.now) c.args.regs.now c.args.first c.args.second _ _ c.in-Ok.got
     (record {
       first = c.requires.1.0;
       second = c.requires.1.1;
-      left = ap number a ∙ c.number-in-a.ensures;
-      right = ap number b ∙ c.number-in-b.ensures;
+      left = ap number a ∙ c.number_in-m.ensures;
+      right = ap number b ∙ c.number_in-n.ensures;
       answer = c.in-Ok.ensures;
     })
 
 pub returns-in-Err : goal.returns-in-Err
 returns-in-Err c =
-    let a : to_z w64 (of_z w64 c.number-in-a.result) ≡ c.number-in-a.result = search rules in
-    let b : to_z w64 (of_z w64 c.number-in-b.result) ≡ c.number-in-b.result = search rules in
+    let a : to_z w64 (of_z w64 c.number_in-m.result) ≡ c.number_in-m.result = search rules in
+    let b : to_z w64 (of_z w64 c.number_in-n.result) ≡ c.number_in-n.result = search rules in
     ap (λ t. says t (parts c.args.mem.now) c.args.regs.now) c.refusal.ensures
     ∙ reckoned_err c.args.c (parts c.args.mem.now) c.args.regs.now c.args.first c.args.second _ _ c.in-Err.trouble
     (record {
       first = c.requires.1.0;
       second = c.requires.1.1;
-      left = ap number a ∙ c.number-in-a.ensures;
-      right = ap number b ∙ c.number-in-b.ensures;
+      left = ap number a ∙ c.number_in-m.ensures;
+      right = ap number b ∙ c.number_in-n.ensures;
       answer = c.in-Err.ensures;
     })

@@ -74,6 +74,6 @@ pub returns-in-17 : goal.returns-in-17
 unfolding op_of decoded
 returns-in-17 c = search rules
 
-pub returns-in-default : goal.returns-in-default
+pub returns-in_default : goal.returns-in_default
 unfolding op_of decoded
-returns-in-default c = search rules
+returns-in_default c = search rules

@@ -50,6 +50,6 @@ pub returns-in-14 : goal.returns-in-14
 unfolding two_of
 returns-in-14 c = search rules
 
-pub returns-in-default : goal.returns-in-default
+pub returns-in_default : goal.returns-in_default
 unfolding two_of
-returns-in-default c = search rules
+returns-in_default c = search rules

@@ -7,7 +7,7 @@ use Rattle.interp.proofs.slots.save_slot.Goals as goal
 pub returns-in-Number : goal.returns-in-Number
 returns-in-Number c =
     let e : to_z w64 (of_z w64 c.in-Number.n) ≡ c.in-Number.n = search rules in
-    c.save-number.ensures ∙ number_saved _ _ c.args.i c.top-v.result _ c.top-v.ensures (c.in-Number.is ∙ ap Number (sym e))
+    c.save_number.ensures ∙ number_saved _ _ c.args.i c.top-v.result _ c.top-v.ensures (c.in-Number.is ∙ ap Number (sym e))
 
 pub returns : goal.returns
 unfolding kept_in

@@ -2,9 +2,9 @@ use Rattle.std.proofs.Common.{rules}
 use Rattle.language.specs.Text.{as_text}
 use Rattle.interp.proofs.texts.as_short.Goals as goal
 
-pub short-of-requires-in-Text : goal.short-of-requires-in-Text
+pub short_of-requires-in-Text : goal.short_of-requires-in-Text
 unfolding as_text
-short-of-requires-in-Text c = search rules
+short_of-requires-in-Text c = search rules
 
 pub returns-in-Unset : goal.returns-in-Unset
 unfolding as_text

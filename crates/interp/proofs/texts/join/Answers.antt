@@ -13,46 +13,46 @@ returns-then-size-gt-LONGEST c =
     (record {
       first = c.under-first.ensures;
       second = c.top-second.ensures;
-      left = c.text-len-m.ensures;
-      right = c.text-len.ensures;
-      both = c.saturating-add-size.ensures;
+      left = c.text_len-m.ensures;
+      right = c.text_len.ensures;
+      both = c.saturating_add-size.ensures;
     })
     c.if-size-gt-LONGEST.true
 
 pub returns-then-size-gt-SHORTEST : goal.returns-then-size-gt-SHORTEST
 returns-then-size-gt-SHORTEST c =
-    c.join-long.ensures
+    c.join_long.ensures
     ∙ joined_wide (parts c.args.mem.now) c.args.regs.now c.under-first.result c.top-second.result _ _ _
     (record {
       first = c.under-first.ensures;
       second = c.top-second.ensures;
-      left = c.text-len-m.ensures;
-      right = c.text-len.ensures;
-      both = c.saturating-add-size.ensures;
+      left = c.text_len-m.ensures;
+      right = c.text_len.ensures;
+      both = c.saturating_add-size.ensures;
     })
     c.if-size-gt-LONGEST.false c.if-size-gt-SHORTEST.true
 
-pub join-shorts-short-requires : goal.join-shorts-short-requires
-join-shorts-short-requires c =
-    let a = ap length c.as-short.ensures in
-    let b = ap length c.as-short-2.ensures in
-    let m = length_bytes c.as-short.result.len c.as-short.result.word in
-    let n = length_bytes c.as-short-2.result.len c.as-short-2.result.word in
-    omega (arith, a, b, m, n, c.text-len-m.ensures, c.text-len.ensures, c.saturating-add-size.ensures, c.if-size-gt-SHORTEST.false)
+pub join_shorts-short-requires : goal.join_shorts-short-requires
+join_shorts-short-requires c =
+    let a = ap length c.as_short.ensures in
+    let b = ap length c.as_short-2.ensures in
+    let m = length_bytes c.as_short.result.len c.as_short.result.word in
+    let n = length_bytes c.as_short-2.result.len c.as_short-2.result.word in
+    omega (arith, a, b, m, n, c.text_len-m.ensures, c.text_len.ensures, c.saturating_add-size.ensures, c.if-size-gt-SHORTEST.false)
 
 pub returns : goal.returns
 returns c =
-    c.cover-two.ensures
-    ∙ released (parts c.args.mem.now) (parts c.release-value.new.mem) (parts c.release-value-2.new.mem) c.args.regs.now c.under-first.result c.top-second.result _ c.under-first.ensures c.top-second.ensures c.release-value.ensures c.release-value-2.ensures
-    ∙ joined_near (parts c.args.mem.now) c.args.regs.now c.under-first.result c.top-second.result _ _ _ c.join-shorts-short.result
+    c.cover_two.ensures
+    ∙ released (parts c.args.mem.now) (parts c.release_value.new.mem) (parts c.release_value-2.new.mem) c.args.regs.now c.under-first.result c.top-second.result _ c.under-first.ensures c.top-second.ensures c.release_value.ensures c.release_value-2.ensures
+    ∙ joined_near (parts c.args.mem.now) c.args.regs.now c.under-first.result c.top-second.result _ _ _ c.join_shorts-short.result
     (record {
       first = c.under-first.ensures;
       second = c.top-second.ensures;
-      left = c.text-len-m.ensures;
-      right = c.text-len.ensures;
-      both = c.saturating-add-size.ensures;
+      left = c.text_len-m.ensures;
+      right = c.text_len.ensures;
+      both = c.saturating_add-size.ensures;
     })
     c.if-size-gt-SHORTEST.false
-    (c.join-shorts-short.ensures
-    ∙ ap (λ x. x ++ bytes_of c.as-short-2.result.len c.as-short-2.result.word) c.as-short.ensures
-    ∙ ap (λ x. text_in (parts c.args.mem.now) c.under-first.result ++ x) c.as-short-2.ensures)
+    (c.join_shorts-short.ensures
+    ∙ ap (λ x. x ++ bytes_of c.as_short-2.result.len c.as_short-2.result.word) c.as_short.ensures
+    ∙ ap (λ x. text_in (parts c.args.mem.now) c.under-first.result ++ x) c.as_short-2.ensures)

@@ -8,19 +8,19 @@ use Rattle.interp.proofs.texts.join_long.Goals as goal
 
 pub returns-in-Some : goal.returns-in-Some
 returns-in-Some c =
-    let b : Built (parts c.args.mem.now) (parts c.new-handle.new.mem) (parts c.put-text.new.mem) (parts c.put-text_in-Some.new.mem) c.args.regs.now
+    let b : Built (parts c.args.mem.now) (parts c.new_handle.new.mem) (parts c.put_text.new.mem) (parts c.put_text-in-Some.new.mem) c.args.regs.now
     c.args.m c.args.size c.under-first.result c.top-second.result c.in-Some.handle =
     record {
       first = c.under-first.ensures;
       second = c.top-second.ensures;
-      given = c.new-handle.ensures.memory;
+      given = c.new_handle.ensures.memory;
       handle = c.in-Some.ensures.handle;
-      one = c.put-text.ensures;
-      two = c.put-text_in-Some.ensures;
+      one = c.put_text.ensures;
+      two = c.put_text-in-Some.ensures;
     } in
-    c.cover-two.ensures
-    ∙ released (parts c.put-text_in-Some.new.mem) (parts c.release-value.new.mem) (parts c.release-value-in-Some.new.mem) c.args.regs.now c.under-first.result c.top-second.result (InText c.in-Some.handle)
-    (built_under _ _ _ _ _ _ _ _ _ _ b) (built_top _ _ _ _ _ _ _ _ _ _ b) c.release-value.ensures c.release-value-in-Some.ensures
+    c.cover_two.ensures
+    ∙ released (parts c.put_text-in-Some.new.mem) (parts c.release_value.new.mem) (parts c.release_value-in-Some.new.mem) c.args.regs.now c.under-first.result c.top-second.result (InText c.in-Some.handle)
+    (built_under _ _ _ _ _ _ _ _ _ _ b) (built_top _ _ _ _ _ _ _ _ _ _ b) c.release_value.ensures c.release_value-in-Some.ensures
     ∙ joined_built _ _ _ _ _ _ _ _ _ _ b
 
 pub returns-in-None : goal.returns-in-None

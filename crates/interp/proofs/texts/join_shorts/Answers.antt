@@ -15,14 +15,14 @@ below a b h =
     subst (λ x. a.word + x < 256 ^ (a.len + b.len)) (sym (shifted a.len b.len b.word b.clean h))
     (both_below a.len b.len a.word b.word a.clean b.clean)
 
-pub overflow-add-result : goal.overflow-add-result
-overflow-add-result c =
+pub overflow_add-result : goal.overflow_add-result
+overflow_add-result c =
     let e : 8 * (c.args.a.len + c.args.b.len) ≤ 64 = omega arith in
     let l : 256 ^ (c.args.a.len + c.args.b.len) ≤ 2 ^ 64 = subst (λ x. x ≤ 2 ^ 64) (pow_bytes (c.args.a.len + c.args.b.len)) (pow_mono e) in
     record { fits = lt_of_lt_of_le (below c.args.a c.args.b c.requires) l }
 
-pub invariant-of-result : goal.invariant-of-result
-invariant-of-result c = (c.requires, (below c.args.a c.args.b c.requires, tt))
+pub invariant_of-result : goal.invariant_of-result
+invariant_of-result c = record { few = c.requires; clean = below c.args.a c.args.b c.requires }
 
 pub returns : goal.returns
 returns c =
