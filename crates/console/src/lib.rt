@@ -4,11 +4,11 @@ ghost use Rattle.machine.specs.declared.drive.Piece.TheVariants.{Bytes, Failed};
 ghost use Rattle.machine.specs.Drive.{Account};
 ghost use Rattle.console.specs.Console.{Few, left_open, Closes, failure, said};
 
-use anyhow::anyhow;
 use machine::drive::{Ending, Piece, World, drive};
 use std::alloc::{AllocError, Global};
 use std::fs::File;
 use std::io::{Read, Write};
+use std::process::ExitCode;
 use std::{env, fs};
 
 // Where the next bytes come from.
@@ -200,18 +200,18 @@ pub fn called_with(rt: &HostRuntime) -> anyhow::Result<Option<Command>> {
     Ok(Some(Command { program, names }))
 }
 
-// Runs a program over its files, or over standard input if there are none; what is to be said at its end goes to standard error, and then the answer
-// is an error.
-pub fn run(rt: &HostRuntime, command: Command) -> anyhow::Result<()> {
+// Runs a program over its files, or over standard input if there are none; what is to be said at its end goes to standard error, and then the process
+// is to end with status 1.
+pub fn run(rt: &HostRuntime, command: Command) -> anyhow::Result<ExitCode> {
     let Command { program, names } = command;
     let mut console = Console::new(rt, names);
     let ending = drive(&mut console, rt.alloc(), program.as_slice());
     let text = verdict(rt.alloc(), ending, console.trouble)?;
     if text.is_empty() {
-        return Ok(());
+        return Ok(ExitCode::SUCCESS);
     }
     rt.stderr().println(text.as_str())?;
-    Err(anyhow!("not done"))
+    Ok(ExitCode::FAILURE)
 }
 
 #[cfg(test)]

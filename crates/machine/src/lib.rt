@@ -121,9 +121,8 @@ fn told_number(told: Told) -> u64
     }
 }
 
-// The same step for C: the act is returned (0 ask, 1 write, 2 done, 3 refused), and its number is left in `number`.
-#[unsafe(no_mangle)]
-pub extern "C" fn movkresan_step(
+// The same step in numbers, as C calls it: the act is returned (0 ask, 1 write, 2 done, 3 refused), and its number is left in `number`.
+pub fn movkresan_step(
     memory: &mut [u64],
     kind: u64,
     piece: &[u8],
