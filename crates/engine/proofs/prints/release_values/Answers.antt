@@ -10,8 +10,8 @@ loop-i-init c = simp sub-zero
 pub loop-i-preserved : goal.loop-i-preserved
 loop-i-preserved c =
     c.loop-i.invariant
-    ∙ released_next (parts c.loop-i.mem) (parts c.release-value.new.mem) c.args.depth c.args.n c.loop-i.i c.stacked-v.result
-    (omega arith) (search rules) c.release-value.ensures
+    ∙ released_next (parts c.loop-i.mem) (parts c.release_value.new.mem) c.args.depth c.args.n c.loop-i.i c.stacked-v.result
+    (omega arith) (search rules) c.release_value.ensures
 
 pub returns : goal.returns
 returns c = sym (c.loop-i.invariant ∙ released_none _ _ _ (omega arith))

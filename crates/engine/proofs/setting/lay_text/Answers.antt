@@ -9,19 +9,19 @@ pub loop-at-init : goal.loop-at-init
 unfolding put_bytes
 loop-at-init c = (refl, zero-le)
 
-pub overflow-add-to : goal.overflow-add-to
-overflow-add-to c =
+pub overflow_add-to : goal.overflow_add-to
+overflow_add-to c =
     let l = text_most c.args.mem.now c.args.h.index c.requires.0 in
-    record { fits = omega (arith, ap length c.text-view.ensures, c.len-n.ensures) }
+    record { fits = omega (arith, ap length c.text_view.ensures, c.len-n.ensures) }
 
 pub loop-at-preserved : goal.loop-at-preserved
 loop-at-preserved c =
-    let l = ap length c.text-view.ensures in
-    (laid_more _ _ _ c.args.h.index c.args.to c.loop-at.at c.min-at.result c.loop-at.invariant.0 c.lay-chunk.ensures (omega arith) (omega arith), omega arith)
+    let l = ap length c.text_view.ensures in
+    (laid_more _ _ _ c.args.h.index c.args.to c.loop-at.at c.min-at.result c.loop-at.invariant.0 c.lay_chunk.ensures (omega arith) (omega arith), omega arith)
 
 pub returns : goal.returns
 returns c =
-    let l = ap length c.text-view.ensures in
+    let l = ap length c.text_view.ensures in
     c.loop-at.invariant.0
     ∙ ap (λ x. with_lines (parts c.args.mem.now) (put_bytes (parts c.args.mem.now).lines c.args.to x))
     (take_all _ (text_of 77822 (parts c.args.mem.now).texts c.args.h.index) (omega arith))

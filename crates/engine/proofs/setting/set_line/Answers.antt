@@ -8,12 +8,12 @@ pub returns-then-len-gt-LONGEST : goal.returns-then-len-gt-LONGEST
 unfolding line_set
 returns-then-len-gt-LONGEST c = search rules
 
-pub returns-then-fields-in-gt-FIELDS : goal.returns-then-fields-in-gt-FIELDS
+pub returns-then-fields_in-gt-FIELDS : goal.returns-then-fields_in-gt-FIELDS
 unfolding line_set
-returns-then-fields-in-gt-FIELDS c = search rules
+returns-then-fields_in-gt-FIELDS c = search rules
 
-pub lay-value-requires : goal.lay-value-requires
-lay-value-requires c = (c.requires, omega (arith, buffer_near c.args.regs.now.line, c.free-buffer.ensures))
+pub lay_value-requires : goal.lay_value-requires
+lay_value-requires c = (c.requires, omega (arith, buffer_near c.args.regs.now.line, c.free_buffer.ensures))
 
 pub returns : goal.returns
 unfolding line_set with_text after_line line_of

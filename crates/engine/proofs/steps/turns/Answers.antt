@@ -17,7 +17,7 @@ loop-i-preserved c =
       did = c.in-On.ensures.did;
       row = c.in-On.ensures.row;
     } in
-    (turn_more _ c.args.budget c.loop-i.-i _ _ _ _ _ _ (omega arith) c.loop-i.invariant.0 h, all_behind _ _ _ _ _ _ c.loop-i.invariant.1 (round_behind _ _ _ _ _ _ _ h))
+    (turn_more _ c.args.budget c.loop-i._i _ _ _ _ _ _ (omega arith) c.loop-i.invariant.0 h, all_behind _ _ _ _ _ _ c.loop-i.invariant.1 (round_behind _ _ _ _ _ _ _ h))
 
 pub returns-then-regs-ge-ROW : goal.returns-then-regs-ge-ROW
 returns-then-regs-ge-ROW c = record { halt = sym (c.loop-i.invariant.0 ∙ full_loop _ _ c.if-regs-ge-ROW.true); row = c.loop-i.invariant.1 }

@@ -7,5 +7,5 @@ use Rattle.engine.proofs.steps.turns.Given as goal
 -- the turns that are left, from here
 abbrev pub invariant-loop-i : goal.invariant-loop-i
 invariant-loop-i l =
-    (loop machine_parts l.budget (scene_in l.initial.mem l.initial.regs l.initial.out) ≡ loop machine_parts (l.budget - l.-i) (scene_in l.mem l.regs l.out))
+    (loop machine_parts l.budget (scene_in l.initial.mem l.initial.regs l.initial.out) ≡ loop machine_parts (l.budget - l._i) (scene_in l.mem l.regs l.out))
     × PutBehind l.initial.out l.initial.regs.used l.out l.regs.used

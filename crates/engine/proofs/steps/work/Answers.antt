@@ -8,7 +8,7 @@ use Rattle.engine.proofs.steps.work.Goals as goal
 pub returns : goal.returns
 returns c =
     let h : Worked c.args.mem.now (told_of c.args.event) c.args.out.now c.begin-regs.new.mem c.begin-regs.result c.begin-regs.new.out c.turns-last.new.mem
-    c.turns-last.new.regs c.turns-last.new.out c.save-registers.new.mem c.turns-last.result =
+    c.turns-last.new.regs c.turns-last.new.out c.save_registers.new.mem c.turns-last.result =
     record {
       long = c.requires.0;
       wide = c.requires.1;
@@ -17,9 +17,9 @@ returns c =
       turns = c.turns-last.ensures.halt;
       then = c.turns-last.ensures.row;
       still = c.turns-last.auto.mem ∙ c.begin-regs.auto.mem ∙ c.requires.0;
-      last = c.save-registers.auto.mem ∙ c.turns-last.auto.mem ∙ c.begin-regs.auto.mem ∙ c.requires.0;
-      put = c.save-registers.ensures;
-      fits = λ i. (c.type-inv.mem i).fits;
+      last = c.save_registers.auto.mem ∙ c.turns-last.auto.mem ∙ c.begin-regs.auto.mem ∙ c.requires.0;
+      put = c.save_registers.ensures;
+      fits = λ i. (c.type_inv.mem i).fits;
     } in
     let act = subst (λ a. Answers (goes_by machine_parts c.args.mem.now (told_of c.args.event)).act a c.args.out.now c.turns-last.new.out) (sym c.answer.ensures)
     (worked_act _ _ _ _ _ _ _ _ _ _ _ h) in
