@@ -1,0 +1,35 @@
+use Rattle.std.proofs.Common.{◌≡◌, true, false, ◌∷◌, sym, ap, ◌∙◌}
+use Rattle.language.specs.Program.{swap, none, past, can_set}
+use Rattle.parser.specs.declared.frames.Frame.TheVariants.{SwapSecond}
+use Rattle.parser.specs.Frames.{resume, behind, FrameSays}
+use Rattle.lexer.specs.Places.{fuel, toks}
+use Rattle.lexer.proofs.Picks.{picked, left_out}
+use Rattle.parser.proofs.Moves.{place_is, made_swap}
+use Rattle.parser.proofs.Endings.{end_fail, end_close}
+use Rattle.parser.proofs.expressions.finish_swap.Goals as goal
+
+pub returns-then-not-is_place : goal.returns-then-not-is_place
+unfolding FrameSays resume
+returns-then-not-is_place c =
+    let bs = c.args.text.now in
+    let m = c.args.work.now in
+    let s = c.args.s in
+    end_fail bs m c.args.count s c.args.node (SwapSecond c.args.q c.args.by) c.requires.1.1 (λ a t b x fs.
+    let z : can_set a ≡ false = sym (place_is bs m s.nodes c.args.node a t) ∙ sym c.if-not-is_place.ensures in
+    sym (left_out (can_set a) (past 41 (toks bs s.place) (λ us. behind (fuel bs) fs 8 (swap x.0 x.1 a) us)) none z) ∙ ap (λ h. resume (fuel bs) (h ∷ fs) a (toks bs s.place)) (sym x.4))
+
+pub returns : goal.returns
+unfolding FrameSays resume
+returns c =
+    let bs = c.args.text.now in
+    let m = c.args.work.now in
+    let m₁ = c.close.new.work in
+    let s = c.args.s in
+    let k = c.requires.0.tokens in
+    let room = c.requires.1.0 in
+    end_close bs m m₁ c.args.count s c.args.node (SwapSecond c.args.q c.args.by) k room c.requires.1.1 _ 41 c.close.result (c.close.ensures bs k) (λ a t b x.
+    let z : can_set a ≡ true = sym (place_is bs m s.nodes c.args.node a t) ∙ sym c.if-not-is_place.ensures in (
+      swap x.0 x.1 a,
+      made_swap bs m m₁ s.nodes room.low c.args.q c.args.by c.args.node x.0 x.1 a x.2 x.3 t,
+      (λ fs. sym (picked (can_set a) (past 41 (toks bs s.place) (λ us. behind (fuel bs) fs 8 (swap x.0 x.1 a) us)) none z) ∙ ap (λ h. resume (fuel bs) (h ∷ fs) a (toks bs s.place)) (sym x.4)),
+    ))

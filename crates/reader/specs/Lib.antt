@@ -1,0 +1,12 @@
+pub use Rattle.lexer.specs.Ahead
+pub use Rattle.lexer.specs.Classes
+pub use Rattle.lexer.specs.Ends
+pub use Rattle.lexer.specs.Marks
+pub use Rattle.lexer.specs.Memory
+pub use Rattle.lexer.specs.Places
+pub use Rattle.lexer.specs.Scanning
+pub use Rattle.parser.specs.Frames
+pub use Rattle.parser.specs.Levels
+pub use Rattle.parser.specs.Nodes
+pub use Rattle.parser.specs.Parsing
+pub use Rattle.parser.specs.Precedence

@@ -1,0 +1,2 @@
+// A program's text as tokens.
+pub use lexer::tokens::{Class, Digits, Keyword, Name, Piece, Token, cut, peek, spells};

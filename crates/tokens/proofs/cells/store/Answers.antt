@@ -1,6 +1,0 @@
-use Rattle.std.proofs.Common.{arith}
-use Rattle.tokens.proofs.Whole.{stored}
-use Rattle.tokens.proofs.cells.store.Goals as goal
-
-pub returns : goal.returns
-returns c = stored c.args.work.now c.args.i c.args.cell (omega arith)
