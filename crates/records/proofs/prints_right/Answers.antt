@@ -5,7 +5,7 @@ use Rattle.records.proofs.prints_right.Goals as goal
 pub returns : goal.returns
 returns c =
     record {
-      line-is = λ m r l fs h. ap (λ x. x ++ 10 ∷ []) h.holds.bytes;
+      line_is = λ m r l fs h. ap (λ x. x ++ 10 ∷ []) h.holds.bytes;
       line = line_prints;
       values = values_print;
       sound = printed_sound;
