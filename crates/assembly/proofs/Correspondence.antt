@@ -6,7 +6,7 @@ use Rattle.language.specs.Program.{Program}
 use Rattle.language.specs.Meaning.{w_nr, w_nf}
 use Rattle.semantics.specs.Stack.{Instr, note_all, note_below, push_number, push_text, push_value, load_variable, load_field, load_item, apply_one, apply_two, to_truth, match_top, has_key, cut_part, split_into, save_variable, save_field, save_item, swap_variable, swap_field, swap_item, fail, jump, jump_if, jump_unless, drop_top, print_line, print_values, leave_line, exit_run, end_rules, call_function, return_empty, return_value, push_keys, next_key, delete_item}
 use Rattle.semantics.specs.Code.{program_code, code}
-use Rattle.assembly.specs.Assembly.{Op, op_load, op_save, op_line_count, op_field_count, op_get_field, op_set_field, op_one, op_two, op_truth, op_fail, op_jump, op_jump_if, op_jump_unless, op_drop, op_print_line, op_print_values, op_leave_line, op_exit, op_end, coded, word, decoded, op_of, named, Pool, slot_of, with_name, is_count, load_from, save_into, Shape, silent, constant, loads, saves, goes, does, outside, shape, is_silent, is_note, lean_place, pool_after, op_for, translated, assemble, ops, pool}
+use Rattle.assembly.specs.Assembly.{Op, op_load, op_save, op_line_count, op_field_count, op_get_field, op_set_field, op_one, op_two, op_truth, op_fail, op_jump, op_jump_if, op_jump_unless, op_drop, op_print_line, op_print_values, op_leave_line, op_exit, op_end, coded, word, decoded, op_of, named, Pool, slot_of, with_name, is_count, load_from, save_into, Shape, silent, constant, loads, saves, goes, does, outside, shape, is_silent, is_note, lean_place, pool_after, op_for, translated, assemble, pool}
 use Rattle.assembly.specs.Laws.{WordsRead, Holds, Constant, Loads, Saves, Means, Correspondence}
 use Rattle.assembly.proofs.Pools.{no, Begins, begins_holds, begins_self, begins_trans, begins_translated, holds_constant, holds_name, Right, right_none, right_translated, right_slot, right_count}
 

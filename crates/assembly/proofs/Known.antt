@@ -5,7 +5,7 @@ use Rattle.language.specs.Text.{pick, every, none_of, added_up}
 use Rattle.language.specs.Program.{Term, Terms, num, txt, var, item, field, un, bin, like, there, put_in, call, part, split, swap, no_terms, term_and, Deed, Deeds, value, print, when, while, each_key, next_line, exit, forget, give, no_deeds, deed_and, Rule, Fun, Program}
 use Rattle.language.specs.Known.{plain_term, plain_terms, plain_deed, plain_deeds, core}
 use Rattle.semantics.specs.Stack.{Instr, end_rules}
-use Rattle.semantics.specs.Code.{save_code, program_code, code}
+use Rattle.semantics.specs.Code.{save_code, program_code}
 use Rattle.assembly.specs.Assembly.{shape, Shape, silent, constant, loads, saves, goes, does, outside}
 use Rattle.assembly.specs.Laws.{in_core_op, in_core, OnlyKnown}
 use Rattle.assembly.proofs.Pools.{no}

@@ -2,7 +2,7 @@
 use Rattle.std.proofs.Common.{◌≡◌, ℕ, zero, suc, ◌<◌, Bool, true, false, ltb, List, [], ◌∷◌, length, sym, refl, ap, ◌∙◌, subst}
 use Rattle.std.proofs.lemmas.Bool.{ltb-true, ltb-false, lt-ltb}
 use lib.ListN.{get_or-eq_default}
-use Rattle.language.specs.Text.{pick, or, same, none_of, limit, Value, plus, text, within, holds}
+use Rattle.language.specs.Text.{pick, same, none_of, limit, Value, plus, text, within, holds}
 use Rattle.language.specs.Meaning.{State, Got, got, left, Went, went, nexted, wrong, bound, set_bound, first_or, top, w_nr, w_nf, var_of, set_var, with_vars, with_frames, below, as_got}
 use Rattle.semantics.specs.Stack.{Cell, val, ret, keys, Config, at, off, land, with_top, with_tops, exec, Instr, note_all, note_below, push_number, push_text, push_value, load_variable, load_field, load_item, apply_one, apply_two, to_truth, match_top, has_key, cut_part, split_into, save_variable, save_field, save_item, swap_variable, swap_field, swap_item, fail, jump, jump_if, jump_unless, drop_top, print_line, print_values, leave_line, exit_run, end_rules, call_function, return_empty, return_value, push_keys, next_key, delete_item}
 use Rattle.semantics.specs.Code.{program_code, code}

@@ -1,8 +1,8 @@
 -- How much there is of a program that was read from at most 4,096 bytes: four weights, each at most what its tokens weigh.
 use Rattle.std.proofs.Common.{◌≡◌, ℕ, zero, suc, ◌+◌, ◌*◌, ◌<◌, ◌≤◌, Bool, true, false, not, ◌&&◌, eqb, leb, ◌⊎◌, List, [], ◌∷◌, ◌++◌, length, refl, ap, inl, inr, le_refl, arith, length-append}
 use Rattle.std.proofs.lemmas.Bool.{and_parts, ltb-true, lt-ltb, leb-true, le-leb}
-use Rattle.language.specs.Text.{pick, or, same, every, added_up, limit, Value, plus, minus, text}
-use Rattle.language.specs.Program.{Token, Terms, no_terms, term_and, Program, program, cut_up, reads}
+use Rattle.language.specs.Text.{pick, or, same, every, added_up, Value, plus, minus, text}
+use Rattle.language.specs.Program.{Token, Terms, no_terms, term_and, Program, cut_up, reads}
 use Rattle.language.specs.Meaning.{w_nr, w_nf}
 use Rattle.semantics.specs.Stack.{Instr}
 use Rattle.semantics.specs.Code.{count, program_code}

@@ -5,7 +5,7 @@ use Rattle.language.specs.Text.{pick, added_up, Value, plus, text}
 use Rattle.language.specs.Program.{Term, Terms, num, txt, var, item, field, un, bin, like, there, put_in, call, part, split, swap, no_terms, term_and, Deed, Deeds, value, print, when, while, each_key, next_line, exit, forget, give, no_deeds, deed_and, Rule, Fun, Program}
 use Rattle.language.specs.Meaning.{fun_of, of_kind, for_lines}
 use Rattle.semantics.specs.Stack.{Instr, note_all, note_below, push_value, to_truth, jump, jump_if, jump_unless, call_function, fail}
-use Rattle.semantics.specs.Code.{Code, Calls, nothing_to_do, lone, ahead, seq, noted_code, decided_code, if_code, while_code, for_code, test_code, count, save_code, swap_code, two_code, body_code, key_code, terms_code, term_code, print_code, deed_code, deeds_code, rule_code, rules_code, stage_code, slot_of, call_code, calls_of, function_code, functions_code, slots, program_code, entries, code}
+use Rattle.semantics.specs.Code.{Code, Calls, nothing_to_do, lone, ahead, seq, noted_code, decided_code, if_code, while_code, for_code, test_code, count, save_code, swap_code, two_code, body_code, key_code, terms_code, term_code, print_code, deed_code, deeds_code, rule_code, rules_code, stage_code, slot_of, call_code, calls_of, function_code, functions_code, slots, program_code, entries}
 use Rattle.semantics.specs.Invariants.{All, all_none, all_more}
 use Rattle.assembly.specs.Assembly.{Op, op_get_field, op_one, op_two, op_truth, op_fail, op_drop, op_print_line, op_print_values, op_leave_line, op_exit, op_end, Shape, silent, constant, loads, saves, goes, does, outside, shape}
 

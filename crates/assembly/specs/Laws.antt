@@ -1,5 +1,5 @@
 -- What is true of the assembled code. Each is a statement; the functions of src/ ask for its proof.
-use Rattle.std.specs.Prelude.{◌≡◌, ℕ, zero, suc, ◌+◌, ◌<◌, ◌≤◌, Bool, true, false, not, ◌&&◌, ◌⊎◌, List, [], ◌∷◌, length, ◌==◌, nat_le, nat_lt, slice_index_or}
+use Rattle.std.specs.Prelude.{◌≡◌, ℕ, suc, ◌+◌, ◌<◌, ◌≤◌, Bool, true, false, not, ◌&&◌, ◌⊎◌, List, [], ◌∷◌, length, ◌==◌, nat_le, nat_lt, slice_index_or}
 use Rattle.language.specs.Text.{every, same, limit, Value, plus, minus, text}
 use Rattle.language.specs.Program.{Program, reads}
 use Rattle.language.specs.Meaning.{State, w_nr, w_nf}

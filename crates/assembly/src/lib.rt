@@ -1,5 +1,7 @@
 // The code of a program as the machine in memory runs it: without notes, with slots of a constant pool for names and constants, a word for each
 // instruction. The functions below do nothing when they are called; each one's contract is a theorem, and the crate is accepted only with its proof.
+#![tactic(auto)]
+
 ghost use Rattle.assembly.specs.Example.{Worked};
 ghost use Rattle.assembly.specs.Laws.{WordsRead, WordsSmall, Correspondence, OnlyKnown, Sizes, Steps, Generated};
 

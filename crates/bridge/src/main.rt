@@ -1,5 +1,7 @@
 // The weighing bridge's screen: runs a program over lines as they come on standard input. Whatever the whole lines so far are meant to write is
 // written before the next bytes are waited for.
+#![tactic(auto)]
+
 use std::process::ExitCode;
 
 fn main(rt: HostRuntime) -> anyhow::Result<ExitCode> {

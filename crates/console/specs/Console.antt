@@ -1,5 +1,5 @@
 -- What the world outside does with the ends of files, and what is said at the end of a run. Assumes nothing: these are definitions.
-use Rattle.std.specs.Prelude.{◌≡◌, ℕ, zero, suc, ◌-◌, ◌≤◌, Bool, true, false, not, List, [], ◌∷◌, ◌++◌, length, codes, decimal, ◌==◌, slice_index}
+use Rattle.std.specs.Prelude.{◌≡◌, ℕ, zero, suc, ◌≤◌, Bool, true, false, not, List, [], ◌∷◌, ◌++◌, codes, decimal, ◌==◌, slice_index}
 use Rattle.machine.specs.declared.drive.Piece.{Piece}
 use Rattle.machine.specs.declared.drive.Piece.TheVariants.{Bytes, End, Failed}
 use Rattle.machine.specs.declared.drive.Ending.{Ending}

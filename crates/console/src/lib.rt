@@ -1,4 +1,6 @@
 // The world outside: pieces come from files or from standard input, rows go to standard output.
+#![tactic(auto)]
+
 ghost use Rattle.std.specs.Prelude.{◌≡◌, ◌≤◌, length, IfOk, string_bytes};
 ghost use Rattle.machine.specs.declared.drive.Piece.TheVariants.{Bytes, Failed};
 ghost use Rattle.machine.specs.Drive.{Account};

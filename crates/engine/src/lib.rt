@@ -1,4 +1,6 @@
 // One step of the machine: what it is told is taken in, then come turns, and what they print stands in the lent row.
+#![tactic(auto)]
+
 pub mod dispatch;
 pub mod prints;
 pub mod setting;

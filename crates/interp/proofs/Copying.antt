@@ -1,5 +1,5 @@
 -- Bytes of the region of lines, copied into a text piece by piece.
-use Rattle.std.proofs.Common.{◌≡◌, ℕ, ◌+◌, ◌-◌, ◌*◌, ◌<◌, ◌≤◌, min, List, [], ◌∷◌, ◌++◌, length, take, drop, ℤ, Some, None, Option, sym, refl, ap, ◌∙◌, arith, length-drop, length-take, length-take-le, take_all, take-add}
+use Rattle.std.proofs.Common.{◌≡◌, ℕ, ◌+◌, ◌-◌, ◌<◌, ◌≤◌, min, List, [], ◌∷◌, ◌++◌, length, take, drop, ℤ, Some, None, Option, sym, refl, ap, ◌∙◌, arith, length-drop, length-take, length-take-le, take-add}
 use lib.Seq.{paste, take-append_seam}
 use Rattle.std.proofs.lemmas.List.Edits.{paste_all}
 use Rattle.language.specs.Text.{number_of}
@@ -9,7 +9,7 @@ use Rattle.store.specs.declared.short.Short.{Short}
 use Rattle.store.specs.declared.cells.Value.{Value}
 use Rattle.store.specs.declared.cells.Value.TheVariants.{Text as InText, Short as InShort}
 use Rattle.store.specs.Numbers.{number}
-use Rattle.store.specs.Words.{unpacked, window, over, put_bytes, bytes_of}
+use Rattle.store.specs.Words.{window, over, put_bytes, bytes_of}
 use Rattle.store.specs.Space.{Space, Given, bytes_at, with_heap, written, allocated}
 use Rattle.store.specs.Values.{filled, made}
 use Rattle.store.proofs.Coding.{made_short, made_long}

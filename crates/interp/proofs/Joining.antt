@@ -1,5 +1,5 @@
 -- What joining two texts comes to, by how long they are.
-use Rattle.std.proofs.Common.{◌≡◌, ℕ, ◌+◌, ◌-◌, ◌<◌, ◌≤◌, min, Bool, true, false, ltb, leb, List, ◌++◌, length, get_or, Some, sym, refl, ap, ◌∙◌, arith}
+use Rattle.std.proofs.Common.{◌≡◌, ℕ, ◌+◌, ◌-◌, ◌<◌, ◌≤◌, min, Bool, true, false, ◌++◌, length, get_or, Some, sym, ap, ◌∙◌, arith}
 use Rattle.std.proofs.lemmas.Bool.{lt-ltb, le-ltb, le-leb, lt-leb}
 use Rattle.language.specs.Text.{pick}
 use Rattle.store.specs.declared.short.Short.{Short}
@@ -12,7 +12,7 @@ use Rattle.store.specs.Words.{bytes_of}
 use Rattle.regions.specs.Parts.{Parts, with_texts}
 use Rattle.interp.specs.declared.Turn.TheVariants.{Refuse}
 use Rattle.interp.specs.declared.registers.Registers.{Registers}
-use Rattle.interp.specs.Turns.{Did, says, top_of, under_of, replaced_two}
+use Rattle.interp.specs.Turns.{says, top_of, under_of, replaced_two}
 use Rattle.interp.specs.Texts.{text_in, putting, joined_in, joined_long, joined_as, joined}
 use Rattle.interp.proofs.Pieces.{short_is}
 

@@ -1,5 +1,5 @@
 -- Values that hold no text: nothing is held or let go with them, and numbers are seen at once.
-use Rattle.std.proofs.Common.{◌≡◌, ℕ, ◌+◌, ◌-◌, ◌*◌, ◌%◌, ◌^◌, ◌<◌, ◌≤◌, Bool, true, false, not, ◌&&◌, List, take, ℤ, pos, Some, None, Option, sym, refl, ap, ◌∙◌, add-zero, arith}
+use Rattle.std.proofs.Common.{◌≡◌, ℕ, ◌+◌, ◌-◌, ◌%◌, ◌^◌, ◌≤◌, Bool, true, not, ◌&&◌, List, take, ℤ, pos, Some, None, Option, sym, refl, ap, ◌∙◌, add-zero, arith}
 use Rattle.language.specs.Text
 use Rattle.language.specs.Text.{plus, text, truth, number_of, looks, less, less_number, alike, earlier, as_text, pick}
 use Rattle.language.specs.Meaning.{State, got, reckon}
@@ -16,11 +16,11 @@ use Rattle.values.specs.declared.compare.Comparison.TheVariants.{Equal, Unequal,
 use Rattle.values.specs.Texts.{plain}
 use Rattle.values.specs.Compare.{operator, upwards, plain_number}
 use Rattle.values.proofs.Comparing.{number_looks, number_itself}
-use Rattle.values.proofs.Reading.{Plainly, plainly}
+use Rattle.values.proofs.Reading.{plainly}
 use Rattle.regions.specs.Parts.{Parts, with_texts}
 use Rattle.interp.specs.declared.Turn.TheVariants.{On}
 use Rattle.interp.specs.declared.registers.Registers.{Registers}
-use Rattle.interp.specs.Turns.{Did, says, placed, after, top_of, under_of, worth_in, holding, releasing, stacking, replaced_two}
+use Rattle.interp.specs.Turns.{says, placed, after, top_of, under_of, worth_in, holding, releasing, stacking, replaced_two}
 use Rattle.interp.specs.Slots.{slot_of, slotting, kept_in}
 use Rattle.interp.specs.Numbers.{Compares}
 

@@ -1,11 +1,10 @@
 -- Short texts: two of them as one, and which one has which bytes.
-use Rattle.std.proofs.Common.{◌≡◌, ℕ, zero, suc, ◌+◌, ◌*◌, ◌/◌, ◌%◌, ◌^◌, ◌<◌, ◌≤◌, List, [], ◌∷◌, ◌++◌, length, sym, refl, ap, ◌∙◌, subst, append-nil, mul_comm, mul-le-mul_left, pow-suc, mul-add, arith}
+use Rattle.std.proofs.Common.{◌≡◌, ℕ, zero, suc, ◌+◌, ◌*◌, ◌/◌, ◌%◌, ◌^◌, ◌<◌, ◌≤◌, List, length, sym, refl, ap, ◌∙◌, subst, mul_comm, mul-le-mul_left, pow-suc, mul-add, arith}
 use Rattle.std.proofs.lemmas.Nat.{pow-add, shl_whole}
 use Rattle.store.specs.declared.short.Short.{Short}
 use Rattle.store.specs.Words.{bytes_of}
 use Rattle.store.specs.Short.{packed, short_of}
 use Rattle.store.proofs.Packing.{length_bytes, bytes_below}
-use Rattle.store.proofs.Merging.{two_parts}
 use Rattle.store.proofs.Shorts.{short_same, short_len, short_word}
 
 pub pow_bytes : (m : ℕ) → 2 ^ (8 * m) ≡ 256 ^ m

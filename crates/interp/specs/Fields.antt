@@ -4,7 +4,6 @@ use Rattle.language.specs.Text.{pick, number_of}
 use Rattle.language.specs.Meaning.{field_number}
 use Rattle.store.specs.declared.cells.Value.{Value}
 use Rattle.store.specs.Words.{window}
-use Rattle.store.specs.Space.{Space}
 use Rattle.store.specs.Values.{Made, made}
 use Rattle.regions.specs.Parts.{Parts, with_texts}
 use Rattle.regions.specs.declared.fields.Place.{Place}

@@ -1,8 +1,6 @@
 -- The machine's registers as words of memory. Assumes nothing: these are definitions; the law is proved.
 use Rattle.std.specs.Prelude.{◌≡◌, ℕ, Bool, true, false, not, List, [], ◌∷◌, ◌++◌, drop, ◌==◌, slice_index}
 use Rattle.language.specs.Text.{pick}
-use Rattle.regions.specs.declared.fields.Place.{Place}
-use Rattle.lines.specs.declared.cutting.Cut.{Cut}
 use Rattle.lines.specs.declared.line.Line.{Line}
 use Rattle.lines.specs.declared.input.Input.{Input}
 use Rattle.interp.specs.declared.registers.Stage.{Stage}

@@ -5,7 +5,7 @@ use Rattle.store.specs.declared.texts.Handle.{Handle}
 use Rattle.store.specs.declared.cells.Value.{Value}
 use Rattle.store.specs.declared.cells.Value.TheVariants.{Text as InText, Short as InShort}
 use Rattle.store.specs.Short.{short_of}
-use Rattle.store.specs.Space.{Space, allocated, written}
+use Rattle.store.specs.Space.{allocated, written}
 use Rattle.regions.specs.Parts.{Parts, with_texts}
 use Rattle.interp.specs.declared.Turn.TheVariants.{Refuse}
 use Rattle.interp.specs.declared.registers.Registers.{Registers}

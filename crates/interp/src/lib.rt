@@ -1,4 +1,6 @@
 // One turn of the machine in its lent memory: an operation of the program's code, or what comes between two lines.
+#![tactic(auto)]
+
 pub mod between;
 pub mod comparing;
 pub mod dispatch;

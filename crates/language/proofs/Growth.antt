@@ -1,7 +1,7 @@
 -- More depth only adds. Two runs of the same thing, the second allowed to go deeper: either both come to the same, or the first was cut off and
 -- the second has written at least as much and held at least as much. One relation says so for all three kinds of results (a value, several values,
 -- a statement's end), and one lemma, `through`, carries it over whatever is done with a result; the rest of the file goes through the meaning.
-use Rattle.std.proofs.Common.{◌≡◌, ℕ, zero, suc, ◌+◌, ◌<◌, ◌≤◌, Bool, true, false, eqb, ltb, leb, List, [], ◌∷◌, ◌++◌, length, sym, refl, ap, ◌∙◌, subst, append_assoc, append-nil, le_trans, le_refl, arith, ltb-true}
+use Rattle.std.proofs.Common.{◌≡◌, ℕ, zero, suc, ◌+◌, ◌≤◌, Bool, true, false, eqb, ltb, List, [], ◌∷◌, ◌++◌, length, sym, refl, ap, ◌∙◌, subst, append_assoc, append-nil, le_trans, le_refl, arith, ltb-true}
 use Rattle.language.specs.Text.{pick, or, Value, plus, minus, text, Num, too_large, fine, holds, Swapped, none_of, same, joined, as_text, number_of, added_up}
 use Rattle.language.specs.Program.{Term, Terms, num, txt, var, item, field, un, bin, like, there, put_in, call, part, split, swap, no_terms, term_and, Deed, Deeds, value, print, when, while, each_key, next_line, exit, forget, give, no_deeds, deed_and, Fun}
 use Rattle.language.specs.Meaning.{State, Went, went, nexted, stopped, given, wrong, unfinished, Got, got, left, Gots, gots, lefts, state_of, note, noted, larger, weight, then_got, then_gots, and_gots, more_gots, got_then, went_then, eval, does, eval_by, deed_by, deeds_by, eval_all, place_got, in_place, put_place, set_var, store_field, field_got, as_got, reckon, reckon_one, Ev, Ex, call_by, called, over_keys, print_by, print_gots, exit_with, swap_got, with_frames, with_out, framed, swapped, fun_of, size_of, bound, top, w_nr, w_nf, short, set_part, keys_of}

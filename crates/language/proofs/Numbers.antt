@@ -1,5 +1,5 @@
 -- Values that look like numbers have one order.
-use Rattle.std.proofs.Common.{◌≡◌, ℕ, Bool, true, false, not, ◌&&◌, ltb, sym, refl, ◌∙◌, arith}
+use Rattle.std.proofs.Common.{◌≡◌, Bool, true, false, not, ◌&&◌, sym, refl, ◌∙◌, arith}
 use Rattle.std.proofs.lemmas.Bool.{ltb-true, lt-ltb, le-ltb, and_parts}
 use Rattle.language.specs.Text.{or, Value, plus, minus, text, less, less_number, alike, looks, number_of}
 use Rattle.language.specs.Promise.{Order}

@@ -1,6 +1,6 @@
 -- Whole runs: what is over stays as it is when the run may go deeper, what was written stays written, and lines can be done in two parts.
-use Rattle.std.proofs.Common.{◌≡◌, ℕ, zero, suc, ◌+◌, Bool, true, false, eqb, List, [], ◌∷◌, ◌++◌, sym, refl, ap, ◌∙◌, subst, suc-add, zero-add}
-use Rattle.language.specs.Text.{pick, holds, fields_from}
+use Rattle.std.proofs.Common.{◌≡◌, ℕ, zero, suc, ◌+◌, true, false, eqb, List, [], ◌∷◌, ◌++◌, sym, refl, ap, ◌∙◌, subst, suc-add, zero-add}
+use Rattle.language.specs.Text.{holds, fields_from}
 use Rattle.language.specs.Program.{Rule, Fun, Program}
 use Rattle.language.specs.Meaning.{State, Went, went, nexted, stopped, given, wrong, unfinished, state_of, note, went_then, by_rule, rules_go, settled, begun, lined, over_lines, ended, so_far, outcome, of_kind, for_lines, whole_lines, last_line, short, at_first}
 use Rattle.language.specs.Promise.{over, DeeperSame, OnlyMore, InParts}

@@ -2,9 +2,9 @@
 -- The promise is stated for any such condition; a program that doesn't meet it is refused with number 2. Two conditions are named here:
 -- core, the small language without tables, patterns, functions and parts of texts; and everything, all programs.
 -- Words: Term = expression, Deed = statement, plain = belongs to the core.
-use Rattle.std.specs.Prelude.{◌≡◌, ℕ, zero, suc, ◌+◌, ◌-◌, ◌*◌, ◌/◌, ◌%◌, ◌<◌, ◌≤◌, Bool, true, false, not, ◌&&◌, List, [], ◌∷◌, ◌++◌, length, ◌==◌, nat_le}
-use Rattle.language.specs.Text.{pick, or, every, any, each, none_of}
-use Rattle.language.specs.Program.{Term, Terms, num, txt, var, item, field, un, bin, like, there, put_in, call, part, split, swap, no_terms, term_and, Deed, Deeds, value, print, when, while, each_key, next_line, exit, forget, give, no_deeds, deed_and, Rule, Fun, Program}
+use Rattle.std.specs.Prelude.{Bool, true, false, not, ◌&&◌, ◌==◌, nat_le}
+use Rattle.language.specs.Text.{every, none_of}
+use Rattle.language.specs.Program.{Term, Terms, num, txt, var, item, field, un, bin, like, there, put_in, call, part, split, swap, no_terms, term_and, Deed, Deeds, value, print, when, while, each_key, next_line, exit, forget, give, no_deeds, deed_and, Program}
 
 -- an expression of the core: numbers, quoted texts, variables, fields, assignment, and all operators but ~ !~ in;
 -- no table, no function of the program's, and none that is built in (length, upper, index, substr, split, swap)

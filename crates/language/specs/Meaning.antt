@@ -5,8 +5,8 @@
 -- the line; frames = local variables of running functions; Got = the result of an expression; Went = how doing statements ended; wrong k = error k.
 -- heavy is the most that was to be held so far, in bytes; h is what the surrounding expressions and statements hold beside the state, in bytes.
 -- eval, does and what uses them have a first number (fuel) that bounds how deep they go; if it isn't enough, they end as unfinished.
-use Rattle.std.specs.Prelude.{◌≡◌, ℕ, zero, suc, ◌+◌, ◌-◌, ◌*◌, ◌/◌, ◌%◌, ◌<◌, ◌≤◌, Bool, true, false, not, ◌&&◌, leb, List, [], ◌∷◌, ◌++◌, length, take, drop, ◌==◌, nat_eq, nat_le, nat_lt, slice_range}
-use Rattle.language.specs.Text.{pick, or, every, any, each, those, flat, added_up, none_of, same, earlier, Value, plus, minus, text, as_text, number_of, looks, Num, too_large, fine, within, sum, opposite, product, quotient, is_zero, less, alike, holds, truth, Pattern, matches, ends, greatest, Swapped, swap_from, fields_from, joined}
+use Rattle.std.specs.Prelude.{ℕ, zero, suc, ◌+◌, ◌-◌, ◌*◌, Bool, false, not, ◌&&◌, leb, List, [], ◌∷◌, ◌++◌, length, take, drop, ◌==◌, nat_eq, nat_le, nat_lt, slice_range}
+use Rattle.language.specs.Text.{pick, or, any, each, those, added_up, none_of, same, earlier, Value, plus, minus, text, as_text, number_of, Num, too_large, fine, within, sum, opposite, product, quotient, is_zero, less, alike, holds, truth, Pattern, matches, ends, greatest, Swapped, swap_from, fields_from, joined}
 use Rattle.language.specs.Program.{Term, Terms, num, txt, var, item, field, un, bin, like, there, put_in, call, part, split, swap, no_terms, term_and, Deed, Deeds, value, print, when, while, each_key, next_line, exit, forget, give, no_deeds, deed_and, Rule, Fun, Program}
 
 -- THE STATE, and how things can end

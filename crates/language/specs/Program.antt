@@ -4,8 +4,8 @@
 -- sign = a token that is an operator or punctuation; item = an entry of a table; kept word = reserved word.
 -- Got is what reading came to: none = it failed; got a ts = a was read, and ts is what is left. Reads is the same over tokens.
 -- Functions that read call each other with a first number that gets less by one (fuel); at 0 they fail. It bounds how deep reading goes.
-use Rattle.std.specs.Prelude.{◌≡◌, ℕ, zero, suc, ◌+◌, ◌-◌, ◌*◌, ◌/◌, ◌%◌, ◌<◌, ◌≤◌, Bool, true, false, not, ◌&&◌, List, [], ◌∷◌, ◌++◌, length, ◌==◌, nat_eq, nat_le, slice_index}
-use Rattle.language.specs.Text.{pick, or, every, any, each, those, flat, none_of, same, digit, leading, Pattern, nothing, byte, both, either, some, at_start, at_end, Span}
+use Rattle.std.specs.Prelude.{ℕ, zero, suc, ◌+◌, ◌*◌, Bool, true, false, not, ◌&&◌, List, [], ◌∷◌, ◌++◌, length, ◌==◌, nat_eq, nat_le, slice_index}
+use Rattle.language.specs.Text.{pick, or, any, none_of, same, digit, leading, Pattern, nothing, byte, both, either, some, at_start, at_end, Span}
 
 -- THE SYNTAX TREE
 

@@ -6,11 +6,11 @@
 -- how deep a meaning goes (more depth, more of it); out = what is meant to be written; heavy = the most bytes that were to be held.
 -- A machine refuses with 1 (no program), 2 (a program it doesn't know), 8 (no room), or the number of an error (3 to 7, 9: Went in Meaning).
 -- (x : A) → P reads "for every x, P"; (x : A) × P reads "there is an x with P"; × is "and", ⊎ is "or", ≡ is "equals".
-use Rattle.std.specs.Prelude.{◌≡◌, ℕ, zero, suc, ◌+◌, ◌-◌, ◌*◌, ◌/◌, ◌%◌, ◌<◌, ◌≤◌, Bool, true, false, not, ◌&&◌, ◌⊎◌, List, [], ◌∷◌, ◌++◌, length, take, ◌==◌}
-use Rattle.language.specs.Text.{pick, or, every, any, flat, same, none_of, Value, plus, minus, text, as_text, less, alike, number_of, looks, Pattern, ends, first_match, matches, has, both, either, some, nothing, swap_from, Swapped, joined, fields_from}
-use Rattle.language.specs.Program.{Program, Rule, Fun, Term, Terms, Deed, Deeds, reads}
-use Rattle.language.specs.Meaning.{State, Went, went, nexted, stopped, given, wrong, unfinished, Got, got, left, state_of, outcome, so_far, begun, over_lines, whole_lines, last_line, item_of, set_item, keys_of, Item, eval, does, at_first}
-use Rattle.language.specs.Run.{Engine, Event, Ran, run_of, a_row, Steady}
+use Rattle.std.specs.Prelude.{◌≡◌, ℕ, zero, suc, ◌+◌, ◌*◌, ◌<◌, ◌≤◌, Bool, true, false, ◌&&◌, ◌⊎◌, List, [], ◌∷◌, ◌++◌, length, take, ◌==◌}
+use Rattle.language.specs.Text.{pick, or, every, any, flat, same, none_of, Value, less, alike, looks, Pattern, ends, first_match, matches, has, both, either, some, swap_from, joined, fields_from}
+use Rattle.language.specs.Program.{Program, reads}
+use Rattle.language.specs.Meaning.{State, Went, went, nexted, stopped, given, wrong, unfinished, state_of, outcome, so_far, over_lines, item_of, set_item, Item}
+use Rattle.language.specs.Run.{Engine, Ran, run_of, a_row, Steady}
 
 -- ys begins with xs
 abbrev pub Beginning : List ℕ → List ℕ → Type 0

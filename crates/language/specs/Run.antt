@@ -4,8 +4,8 @@
 -- piece = a list of up to 4,096 bytes of input, cut anywhere, perhaps empty; row = up to 4,096 bytes; Ran = a record of a run so far.
 -- A run alternates: the machine is told an event and does one act, and this act decides which event comes next.
 -- A fault is an act that no machine may do: it ends the run.
-use Rattle.std.specs.Prelude.{◌≡◌, ℕ, zero, suc, ◌+◌, ◌-◌, ◌*◌, ◌/◌, ◌%◌, ◌<◌, ◌≤◌, Bool, true, false, not, ◌&&◌, ltb, List, [], ◌∷◌, ◌++◌, length, nat_eq, nat_le, nat_lt}
-use Rattle.language.specs.Text.{pick, or, every}
+use Rattle.std.specs.Prelude.{◌≡◌, ℕ, zero, suc, ◌+◌, ◌≤◌, Bool, true, false, ◌&&◌, ltb, List, [], ◌∷◌, ◌++◌, length, nat_eq, nat_le, nat_lt}
+use Rattle.language.specs.Text.{pick, every}
 
 -- what the machine is told
 pub data Event : Type 0 where

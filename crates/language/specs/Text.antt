@@ -4,7 +4,7 @@
 -- Words: pick = if-then-else; each, those, flat = map, filter, concat-map; Value = a number or a text; a value "holds" if it counts as true
 -- and "looks" if it looks like a number; Num = the result of arithmetic with its bounds; Pattern = regular expression; Span = range of bytes;
 -- ends = the positions at which matches end; swap = replace all matches.
-use Rattle.std.specs.Prelude.{◌≡◌, ℕ, zero, suc, ◌+◌, ◌-◌, ◌*◌, ◌/◌, ◌%◌, ◌<◌, ◌≤◌, Bool, true, false, not, ◌&&◌, List, [], ◌∷◌, ◌++◌, length, take, drop, ◌==◌, nat_eq, nat_le, nat_lt}
+use Rattle.std.specs.Prelude.{ℕ, zero, suc, ◌+◌, ◌-◌, ◌*◌, ◌/◌, ◌%◌, Bool, true, false, not, ◌&&◌, List, [], ◌∷◌, ◌++◌, length, take, drop, ◌==◌, nat_eq, nat_le, nat_lt}
 
 -- HELPERS: conditions and lists
 

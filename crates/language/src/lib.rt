@@ -1,5 +1,7 @@
 // The language of reports: its specification stands in specs/. The functions below do nothing when they are called; each one's contract is a law of
 // the language, and the crate is accepted only with its proof.
+#![tactic(auto)]
+
 ghost use Rattle.language.specs.Promise.{Order, FieldsAgain, InParts, OnlyMore, DeeperSame};
 ghost use Rattle.language.specs.Examples.{Worked};
 

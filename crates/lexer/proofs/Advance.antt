@@ -1,7 +1,7 @@
 -- A scan of a pattern goes on by a byte.
 use Rattle.std.proofs.Common.{◌≡◌, ℕ, suc, ◌+◌, ◌-◌, ◌*◌, ◌≤◌, Bool, true, false, not, eqb, List, [], ◌∷◌, length, Some, None, sym, refl, ap, ◌∙◌, subst, arith, ne_eqb, eqb-true}
 use Rattle.language.specs.Text.{or, none_of, Pattern, nothing}
-use Rattle.language.specs.Program.{Got, none, got, with_got, pattern, marks, atom, whole_pattern}
+use Rattle.language.specs.Program.{Got, none, got, with_got, pattern, atom, whole_pattern}
 use Rattle.lexer.specs.Scanning.{a_mark, from_on, MeantIs, AtomSays, PlainByte, in_either, in_group, Means, Scans}
 use Rattle.lexer.specs.declared.patterns.Meant.{Meant}
 use Rattle.lexer.specs.declared.patterns.Scan.{Scan}

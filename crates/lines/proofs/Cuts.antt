@@ -1,13 +1,12 @@
 -- A text that is cut in one pass: the places that are noted are those of its fields.
-use Rattle.std.proofs.Common.{◌≡◌, ℕ, zero, suc, ◌+◌, ◌-◌, ◌*◌, ◌<◌, ◌≤◌, min, Bool, true, false, ltb, List, [], ◌∷◌, ◌++◌, length, get_or, take, drop, set, sym, refl, ap, ◌∙◌, subst, inl, inr, append_assoc, append-nil, add-zero, arith, length-append, length-set, length-take}
-use Rattle.std.proofs.lemmas.List.{take_at, drop_at, take_more_set, get_or-take}
-use Rattle.std.proofs.lemmas.Bool.{cases_lt, cases_Bool, lt-ltb, le-ltb}
+use Rattle.std.proofs.Common.{◌≡◌, ℕ, zero, suc, ◌+◌, ◌-◌, ◌<◌, ◌≤◌, Bool, true, false, ltb, List, [], ◌∷◌, ◌++◌, length, get_or, take, drop, set, sym, refl, ap, ◌∙◌, subst, append_assoc, append-nil, add-zero, arith, length-append, length-set}
+use Rattle.std.proofs.lemmas.List.{take_at, drop_at, take_more_set}
+use Rattle.std.proofs.lemmas.Bool.{lt-ltb, le-ltb}
 use Rattle.language.specs.Text.{pick, each, blank, fields_from}
 use Rattle.regions.specs.declared.fields.Place.{Place}
 use Rattle.regions.specs.Places.{place_word, place_of}
 use Rattle.regions.proofs.Places.{come_back}
-use Rattle.lines.specs.declared.cutting.Cut.{Cut}
-use Rattle.lines.specs.Cutting.{Cuts, cuts_of, cut_of, fresh_cut, from_to, one_more, closed_words, closed_count, closed, pass_blank, pass_other, pass_byte, pass_all, recut_of}
+use Rattle.lines.specs.Cutting.{Cuts, cuts_of, cut_of, from_to, one_more, closed_words, closed_count, pass_blank, pass_other, pass_byte, pass_all, recut_of}
 use Rattle.lines.specs.Fields.{cut_out, places, noted, places_from}
 
 -- the words and the count in the end

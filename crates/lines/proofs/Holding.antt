@@ -1,9 +1,9 @@
 -- The laws of lines: a text that was cut is held with its fields, and a scan finds the first line.
-use Rattle.std.proofs.Common.{◌≡◌, ℕ, zero, suc, ◌+◌, ◌-◌, ◌*◌, ◌<◌, ◌≤◌, min, Bool, true, false, eqb, ltb, ◌⊎◌, List, [], ◌∷◌, ◌++◌, length, get_or, take, drop, set, Some, None, sym, refl, ap, ◌∙◌, subst, inl, inr, append_assoc, append-nil, arith, length-append, length-drop, take-append-drop, length-take}
+use Rattle.std.proofs.Common.{◌≡◌, ℕ, zero, suc, ◌+◌, ◌-◌, ◌*◌, ◌<◌, ◌≤◌, min, Bool, true, false, eqb, ◌⊎◌, List, [], ◌∷◌, ◌++◌, length, get_or, take, drop, Some, None, sym, refl, ap, ◌∙◌, subst, inl, inr, append_assoc, append-nil, arith, length-append, take-append-drop}
 use lib.Seq.{paste}
-use Rattle.std.proofs.lemmas.List.{take_at, drop_at, take_all, drop_all, take-append-le, length-take-le, nil_from_length, get_or_past}
+use Rattle.std.proofs.lemmas.List.{take_at, drop_at, take_all, take-append-le, length-take-le, nil_from_length, get_or_past}
 use Rattle.std.proofs.lemmas.Bool.{eqb-true, eqb-false, ne_eqb, cases_lt}
-use Rattle.language.specs.Text.{pick, or, each, any, has, none_of, blank, fields_from}
+use Rattle.language.specs.Text.{pick, or, each, has, none_of, fields_from}
 use Rattle.language.specs.Meaning.{whole_lines, last_line, nth_part}
 use Rattle.store.specs.Words.{unpacked, window, put_bytes}
 use Rattle.store.proofs.Packing.{length_unpacked}
@@ -11,20 +11,19 @@ use Rattle.store.proofs.Putting.{puts_append, puts_over}
 use Rattle.store.proofs.Moving.{window_part, window_front, window_below}
 use Rattle.regions.specs.Parts.{Parts, with_fields}
 use Rattle.regions.specs.declared.fields.Place.{Place}
-use Rattle.regions.specs.Places.{place_word, place_of}
-use Rattle.lines.specs.declared.cutting.Cut.{Cut}
+use Rattle.regions.specs.Places.{place_of}
 use Rattle.lines.specs.declared.line.Line.{Line}
 use Rattle.lines.specs.declared.input.Input.{Input}
-use Rattle.lines.specs.declared.input.Found.TheVariants.{Whole, Part}
-use Rattle.lines.specs.Cutting.{Cuts, cuts_of, cut_of, fresh_cut, closed_words, closed_count, closed, pass_byte, pass_all, recut_of}
-use Rattle.lines.specs.Scanning.{Scanned, scan_on, scan_of, after_scan, found_of, waiting, line_at, input_of, last_of, last_words, after_last, that_fits, taken_lines, after_taken}
+use Rattle.lines.specs.declared.input.Found.TheVariants.{Whole}
+use Rattle.lines.specs.Cutting.{Cuts, cuts_of, fresh_cut, closed_words, closed_count, closed, pass_byte, pass_all, recut_of}
+use Rattle.lines.specs.Scanning.{Scanned, scan_on, scan_of, after_scan, waiting, line_at, input_of, last_of, last_words, after_last, that_fits, taken_lines, after_taken}
 use Rattle.lines.specs.Fields.{cut_out, places, noted, places_from, Sound, LineHolds}
-use Rattle.lines.specs.Lines.{place, within, nth_place}
+use Rattle.lines.specs.Lines.{within, nth_place}
 use Rattle.lines.specs.Laws.{ScannedSo, WholeFound, PartFound, ScanSays, LastFound, NoneLeft, LastSays, TakenIn, CutAnew}
 use Rattle.lines.proofs.Passing.{window_length, pass_at}
 use Rattle.lines.proofs.Places.{nth_none, nth_some}
 use Rattle.lines.proofs.Waiting.{after_found, after_part, found_whole, found_part}
-use Rattle.lines.proofs.Cuts.{Inside, length_each, getD_each, getD_of_each, length_noted, places_noted, each_inside, text_places, text_inside, text_count, recut_words, recut_count}
+use Rattle.lines.proofs.Cuts.{length_each, getD_each, getD_of_each, length_noted, places_noted, each_inside, text_places, text_inside, text_count, recut_words, recut_count}
 
 -- a text at st that was cut
 pub text_holds : (p : Parts) (ws l : List ℕ) (st : ℕ) → length ws ≡ 16448 → window st (length l) p.lines ≡ l → length l < 4294967296 → length (fields_from [] l) ≤ 16448 →

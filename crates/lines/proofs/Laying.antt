@@ -1,16 +1,15 @@
 -- A line that is put together anew: once its gap is filled, it is the specification's line, with its fields.
-use Rattle.std.proofs.Common.{◌≡◌, ℕ, zero, suc, ◌+◌, ◌-◌, ◌*◌, ◌<◌, ◌≤◌, min, max, Bool, true, false, eqb, ltb, leb, ◌⊎◌, List, [], ◌∷◌, ◌++◌, length, get_or, take, drop, set, Some, None, sym, refl, ap, ◌∙◌, subst, inl, inr, append_assoc, append-nil, add-zero, arith, length-append, length-drop, length-take, drop-drop, take-add}
-use Rattle.std.proofs.lemmas.List.{take_at, drop_at, take_all, get_or_past, length-take-le}
+use Rattle.std.proofs.Common.{◌≡◌, ℕ, zero, suc, ◌+◌, ◌-◌, ◌*◌, ◌<◌, ◌≤◌, min, max, Bool, true, false, leb, ◌⊎◌, List, [], ◌∷◌, ◌++◌, length, get_or, take, drop, Some, None, sym, refl, ap, ◌∙◌, subst, inl, inr, append_assoc, append-nil, add-zero, arith, length-append, length-drop, drop-drop, take-add}
+use Rattle.std.proofs.lemmas.List.{take_at, drop_at, get_or_past, length-take-le}
 use Rattle.std.proofs.lemmas.Bool.{cases_lt, cases_eq, lt-leb, le-leb, ltb-true, ltb-false}
 use Rattle.language.specs.Text.{pick, each, flat, fields_from, joined}
-use Rattle.language.specs.Meaning.{nth_part, set_part, short}
+use Rattle.language.specs.Meaning.{set_part, short}
 use Rattle.store.specs.Words.{unpacked, window, put_byte, put_bytes}
-use Rattle.store.proofs.Packing.{length_unpacked}
 use Rattle.store.proofs.Putting.{length_puts, puts_append, puts_one, puts_none}
 use Rattle.store.proofs.Moving.{window_kept, window_below, window_part, window_front}
 use Rattle.regions.specs.Parts.{Parts, with_fields, with_lines}
 use Rattle.regions.specs.declared.fields.Place.{Place}
-use Rattle.regions.specs.Places.{place_word, place_of}
+use Rattle.regions.specs.Places.{place_of}
 use Rattle.lines.specs.declared.line.Line.{Line}
 use Rattle.lines.specs.declared.building.Piece.{Piece}
 use Rattle.lines.specs.Cutting.{recut_of}
@@ -21,7 +20,7 @@ use Rattle.lines.specs.Building.{buffer_of, gap, copied, piece_of, pieces, all_p
 use Rattle.lines.specs.Laws.{InPlace, BuiltSo, RefusedSo, BuildSays}
 use Rattle.lines.proofs.Places.{nth_none, nth_some}
 use Rattle.lines.proofs.Pieces.{buffer_second, buffer_first, buffer_below, piece_gap, piece_copied}
-use Rattle.lines.proofs.Cuts.{All, Inside, recut_count, length_each, getD_each, length_noted, places_noted, each_inside}
+use Rattle.lines.proofs.Cuts.{All, Inside, recut_count, getD_each, length_noted, places_noted, each_inside}
 use Rattle.lines.proofs.Holding.{window_put, field_bytes, text_holds}
 
 -- the specification's fields with one set

@@ -1,5 +1,5 @@
 -- A text that is cut byte by byte.
-use Rattle.std.proofs.Common.{◌≡◌, ℕ, zero, suc, ◌+◌, ◌-◌, ◌*◌, ◌<◌, ◌≤◌, min, Bool, true, false, eqb, ◌⊎◌, List, [], ◌∷◌, ◌++◌, length, get_or, take, drop, set, sym, refl, ap, ◌∙◌, inl, inr, arith, length-drop, length-take}
+use Rattle.std.proofs.Common.{◌≡◌, ℕ, ◌+◌, ◌-◌, ◌<◌, ◌≤◌, min, true, false, List, ◌∷◌, length, get_or, drop, set, sym, ap, ◌∙◌, inl, inr, arith, length-drop, length-take}
 use Rattle.std.proofs.lemmas.List.{drop_more, drop_all}
 use Rattle.std.proofs.lemmas.Bool.{ne_eqb, cases_Bool, lt-ltb, le-ltb}
 use Rattle.language.specs.Text.{pick, blank}
@@ -9,8 +9,8 @@ use Rattle.store.proofs.Moving.{get_d_window}
 use Rattle.regions.specs.Parts.{Parts, with_fields}
 use Rattle.regions.specs.Places.{place_word}
 use Rattle.lines.specs.declared.cutting.Cut.{Cut}
-use Rattle.lines.specs.Scanning.{Scanned, scan_on}
-use Rattle.lines.specs.Cutting.{Cuts, cuts_of, cut_of, from_to, one_more, closed_words, closed_count, closed, pass_blank, pass_other, pass_byte, pass_all}
+use Rattle.lines.specs.Scanning.{scan_on}
+use Rattle.lines.specs.Cutting.{Cuts, cuts_of, from_to, one_more, closed_words, closed_count, closed, pass_blank, pass_other, pass_byte, pass_all}
 
 pub words_ended : (ws : List ℕ) (c : Cut) → c.since < c.at → closed_words ws c ≡ set ws c.fields (place_word (from_to c.since c.at))
 unfolding closed_words

@@ -1,5 +1,5 @@
 -- What memory has of a line: its bytes, and the places of its fields. Assumes nothing: these are definitions.
-use Rattle.std.specs.Prelude.{◌≡◌, ℕ, ◌+◌, ◌-◌, ◌<◌, ◌≤◌, List, [], ◌∷◌, length, take, drop, nat_lt, slice_index, slice_set}
+use Rattle.std.specs.Prelude.{◌≡◌, ℕ, ◌+◌, ◌<◌, ◌≤◌, List, [], ◌∷◌, length, take, drop, nat_lt, slice_index, slice_set}
 use Rattle.language.specs.Text.{pick, each, blank}
 use Rattle.store.specs.Words.{window}
 use Rattle.regions.specs.Parts.{Parts}

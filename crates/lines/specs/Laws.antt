@@ -1,9 +1,9 @@
 -- What scanning, taking in and cutting come to, in the words of the specification: lines, and the fields of a line. Assumes nothing: these are
 -- statements, and the functions that carry them are proved.
-use Rattle.std.specs.Prelude.{◌≡◌, ℕ, ◌+◌, ◌-◌, ◌<◌, ◌≤◌, Bool, true, false, List, [], ◌∷◌, ◌++◌, length, take, Some, None, Option, slice_index}
+use Rattle.std.specs.Prelude.{◌≡◌, ℕ, ◌+◌, ◌<◌, ◌≤◌, Bool, true, false, List, [], ◌∷◌, ◌++◌, length, take, Some, None, slice_index}
 use Rattle.language.specs.Text.{has, none_of, fields_from, joined}
 use Rattle.language.specs.Meaning.{whole_lines, last_line, nth_part, set_part, short}
-use Rattle.store.specs.Words.{window, put_bytes}
+use Rattle.store.specs.Words.{window}
 use Rattle.regions.specs.Parts.{Parts, with_fields, with_lines}
 use Rattle.regions.specs.declared.fields.Place.{Place}
 use Rattle.lines.specs.declared.cutting.Cut.{Cut}
@@ -13,7 +13,7 @@ use Rattle.lines.specs.declared.input.Found.TheVariants.{Whole, Part}
 use Rattle.lines.specs.Building.{buffer_of, filled, built, after_built, after_line, line_of}
 use Rattle.lines.specs.Cutting.{cuts_of, fresh_cut, pass_all, recut_of}
 use Rattle.lines.specs.Fields.{Sound, LineHolds}
-use Rattle.lines.specs.Lines.{place, nth_place}
+use Rattle.lines.specs.Lines.{nth_place}
 use Rattle.lines.specs.Scanning.{Scanned, scan_of, after_scan, found_of, waiting, taken_lines, after_taken, last_words, last_of, after_last, line_at}
 
 -- The waiting bytes w are looked through so far: there was no byte 10, and what is noted is what one pass over the bytes so far notes.

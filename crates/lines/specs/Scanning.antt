@@ -1,5 +1,5 @@
 -- What a scan of the waiting bytes finds, and what becomes of them. Assumes nothing: these are definitions.
-use Rattle.std.specs.Prelude.{ℕ, ◌+◌, ◌-◌, min, Bool, true, false, List, [], ◌∷◌, ◌++◌, length, take, drop, Some, None, Option, ◌==◌}
+use Rattle.std.specs.Prelude.{ℕ, ◌+◌, ◌-◌, Bool, true, false, List, [], ◌∷◌, length, take, drop, Some, None, Option, ◌==◌}
 use Rattle.language.specs.Text.{pick, none_of}
 use Rattle.store.specs.Words.{window, put_bytes}
 use Rattle.regions.specs.Parts.{Parts}

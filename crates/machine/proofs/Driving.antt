@@ -1,5 +1,5 @@
 -- A driver that obeys the machine's last act and tells it the next event has made one act more of the machine's own run, and just its calls.
-use Rattle.std.proofs.Common.{◌≡◌, ℕ, zero, suc, ◌+◌, ◌-◌, ◌<◌, ◌≤◌, Bool, true, false, ◌&&◌, eqb, ltb, leb, List, [], ◌∷◌, ◌++◌, length, get_or, take, drop, Some, Option, sym, refl, ap, ◌∙◌, subst, append_assoc, append-nil, zero-add, arith, length-append, length-take}
+use Rattle.std.proofs.Common.{◌≡◌, ℕ, zero, suc, ◌+◌, ◌<◌, ◌≤◌, Bool, true, false, ltb, List, [], ◌∷◌, ◌++◌, length, get_or, take, drop, Some, Option, sym, refl, ap, ◌∙◌, subst, append_assoc, append-nil, zero-add, arith, length-append, length-take}
 use Rattle.std.proofs.lemmas.Bool.{le-leb, lt-ltb, eq-eqb}
 use Rattle.std.proofs.lemmas.List.{take_at}
 use Rattle.language.specs.Text.{pick, or, none_of, every}
@@ -7,7 +7,7 @@ use Rattle.language.specs.Run.{Engine, Event, started, bytes, no_more, next, Act
 use Rattle.machine.specs.declared.Told.{Told}
 use Rattle.machine.specs.declared.Told.TheVariants.{More, Write, Done, No}
 use Rattle.machine.specs.Entry.{own, ActTold, StepSays, step_fits, event_of}
-use Rattle.machine.specs.Drive.{Call, took, ended, showed, asks, obeyed, calls, shown, ShownIsWritten, Account, Chain, Link, Going, Goes_on, Reached, done_end, refused_end}
+use Rattle.machine.specs.Drive.{Call, took, ended, showed, asks, obeyed, calls, shown, ShownIsWritten, Account, Chain, Going, Goes_on, Reached, done_end, refused_end}
 use Rattle.machine.proofs.Says.{own_length}
 
 chain_on : {S : Type 0} (a : Account S) (s : S) (cs ds : List Call) (r q : S) → Chain a s cs r → Chain a r ds q → Chain a s (cs ++ ds) q

@@ -2,7 +2,7 @@
 -- are definitions.
 use Rattle.std.specs.Prelude.{◌≡◌, ℕ, zero, suc, ◌+◌, ◌<◌, ◌≤◌, Bool, true, false, ◌&&◌, List, [], ◌∷◌, ◌++◌, length, take, Some, None, Option, nat_le, nat_lt}
 use Rattle.language.specs.Text.{pick, or, none_of}
-use Rattle.language.specs.Run.{Engine, Event, started, next, Act, more, write, done, refused, first_piece, other_pieces, one_act, runs, run_of, Ran, a_row}
+use Rattle.language.specs.Run.{Engine, Event, started, next, Act, more, write, done, refused, first_piece, other_pieces, one_act, runs, run_of, a_row}
 use Rattle.machine.specs.declared.Told.{Told}
 use Rattle.machine.specs.Entry.{own, ActTold}
 use Rattle.machine.specs.declared.drive.Piece.{Piece}

@@ -1,6 +1,6 @@
 -- The machine itself, and how one step of it is told to the world outside: over a kind and some bytes, or over an enum of events. Assumes nothing:
 -- these are definitions.
-use Rattle.std.specs.Prelude.{◌≡◌, ℕ, zero, suc, Bool, true, false, ◌&&◌, List, [], ◌∷◌, ◌++◌, length, drop, replicate, ◌==◌, nat_le}
+use Rattle.std.specs.Prelude.{◌≡◌, ℕ, Bool, true, false, ◌&&◌, List, [], ◌++◌, length, drop, replicate, ◌==◌, nat_le}
 use Rattle.language.specs.Text.{pick}
 use Rattle.language.specs.Run
 use Rattle.language.specs.Run.{Engine, started, bytes, no_more, next, Act, more, write, done, refused, Step}

@@ -1,4 +1,6 @@
 // One step of the machine.
+#![tactic(auto)]
+
 pub mod drive;
 
 ghost use Rattle.std.specs.Prelude.{◌≡◌, ◌≤◌, length};

@@ -2,7 +2,6 @@
 use Rattle.std.proofs.Common.{◌≡◌, ℕ, suc, ◌+◌, ◌-◌, ◌<◌, ◌≤◌, Bool, true, false, ◌&&◌, eqb, leb, List, ◌∷◌, sym, refl, ap, ◌∙◌, subst, arith, eq-eqb, ne_eqb, eqb-true}
 use borrow.Author.Tests.{eqb-false, lt-leb}
 use Rattle.language.specs.Text.{pick, Pattern}
-use Rattle.language.specs.Program
 use Rattle.language.specs.Program.{Term, split, none, got, with_got, Reads, past, sees, name_of, pattern_here}
 use Rattle.language.specs.Known.{plain_term}
 use Rattle.parser.specs.declared.nodes.Prefix.{Prefix}

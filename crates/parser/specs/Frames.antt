@@ -1,6 +1,6 @@
 -- Reading expressions with a stack of what was begun: frames, what they still mean, and how they are kept. Assumes nothing: these are definitions.
-use Rattle.std.specs.Prelude.{◌≡◌, ℕ, zero, suc, ◌+◌, ◌-◌, ◌*◌, ◌<◌, ◌≤◌, Bool, true, false, List, [], ◌∷◌, length, ◌==◌, ◌≢◌}
-use Rattle.language.specs.Text.{pick, or, Pattern}
+use Rattle.std.specs.Prelude.{◌≡◌, ℕ, zero, suc, ◌+◌, ◌-◌, ◌*◌, ◌<◌, ◌≤◌, Bool, true, false, List, [], ◌∷◌, ◌==◌, ◌≢◌}
+use Rattle.language.specs.Text.{pick, Pattern}
 use Rattle.language.specs.Program
 use Rattle.language.specs.Program.{Term, Terms, no_terms, term_and, item, field, un, bin, put_in, call, part, split, swap, none, got, with_got, Reads, past, sees, rest, name_of, pattern_here, can_set, term, args}
 use Rattle.lexer.specs.Memory.{cell, Kept}

@@ -1,5 +1,5 @@
 -- What is kept where the regions of lines and fields and the registers for them are the same.
-use Rattle.std.proofs.Common.{◌≡◌, ℕ, ◌+◌, ◌<◌, ◌≤◌, Bool, List, [], length, get_or, sym, refl, ap, ◌∙◌, subst}
+use Rattle.std.proofs.Common.{◌≡◌, ℕ, ◌+◌, ◌<◌, ◌≤◌, Bool, List, length, get_or, sym, ap, ◌∙◌, subst}
 use Rattle.language.specs.Text.{each}
 use Rattle.store.specs.Words.{window}
 use Rattle.regions.specs.Parts.{Parts}
@@ -9,7 +9,7 @@ use Rattle.lines.specs.declared.cutting.Cut.{Cut}
 use Rattle.lines.specs.Fields.{Sound, LineHolds, cut_out, places}
 use Rattle.lines.specs.Laws.{InPlace, ScannedSo}
 use Rattle.lines.specs.Scanning.{waiting}
-use Rattle.lines.specs.Cutting.{cuts_of, fresh_cut}
+use Rattle.lines.specs.Cutting.{cuts_of}
 use Rattle.interp.specs.declared.registers.Registers.{Registers}
 use Rattle.records.specs.Records.{Current, Waits, WithinLine, BetweenLines, SameRecords, InWords}
 

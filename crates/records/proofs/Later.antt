@@ -1,17 +1,15 @@
 -- What a pass over more bytes keeps: the fields that were noted before. So a scan may be made again from where it was, over words that have more.
-use Rattle.std.proofs.Common.{◌≡◌, ℕ, zero, suc, ◌+◌, ◌-◌, ◌<◌, ◌≤◌, min, Bool, true, false, eqb, ltb, ◌⊎◌, List, [], ◌∷◌, ◌++◌, length, get_or, take, drop, set, sym, refl, ap, ◌∙◌, subst, inl, inr, arith, length-drop, length-set, length-take}
+use Rattle.std.proofs.Common.{◌≡◌, ℕ, zero, suc, ◌+◌, ◌<◌, ◌≤◌, eqb, List, [], ◌∷◌, length, get_or, take, set, sym, refl, ap, ◌∙◌, subst, inl, inr, arith, length-set, length-take}
 use Rattle.std.proofs.lemmas.List.{get_or-set_same, get_or-set_other, set-get_or, set_past}
 use Rattle.std.proofs.lemmas.Bool.{cases_lt, cases_Bool}
-use Rattle.language.specs.Text.{pick, blank}
+use Rattle.language.specs.Text.{blank}
 use Rattle.store.proofs.Putting.{set_fits}
 use Rattle.regions.specs.Parts.{Parts, with_fields}
 use Rattle.regions.specs.Places.{place_word}
 use Rattle.regions.specs.declared.fields.Place.{Place}
 use Rattle.lines.specs.declared.cutting.Cut.{Cut}
-use Rattle.lines.specs.declared.input.Input.{Input}
-use Rattle.lines.specs.Cutting.{Cuts, cuts_of, cut_of, fresh_cut, from_to, one_more, closed, closed_words, closed_count, pass_blank, pass_other, pass_byte, pass_all, recut_of}
-use Rattle.lines.specs.Scanning.{Scanned, scan_on, scan_of}
-use Rattle.lines.specs.Fields.{Sound}
+use Rattle.lines.specs.Cutting.{Cuts, cuts_of, cut_of, fresh_cut, from_to, closed, closed_words, closed_count, pass_blank, pass_byte, pass_all, recut_of}
+use Rattle.lines.specs.Scanning.{scan_on}
 use Rattle.lines.specs.Laws.{ScannedSo}
 use Rattle.records.specs.Records.{InWords}
 use Rattle.lines.proofs.Passing.{words_ended, count_ended, words_kept, count_kept, passes_blank, passes_other}

@@ -1,8 +1,8 @@
 -- The first line of some bytes, as the abstract machine takes it.
-use Rattle.std.proofs.Common.{◌≡◌, ℕ, zero, suc, ◌+◌, ◌-◌, ◌*◌, ◌<◌, ◌≤◌, Bool, true, false, eqb, ltb, ◌⊎◌, List, [], ◌∷◌, ◌++◌, length, take, sym, refl, ap, ◌∙◌, subst, inl, inr, append_assoc, append-nil, arith, length-append, length-take}
+use Rattle.std.proofs.Common.{◌≡◌, ℕ, zero, suc, ◌+◌, ◌*◌, ◌<◌, ◌≤◌, Bool, true, false, eqb, ◌⊎◌, List, [], ◌∷◌, ◌++◌, length, take, sym, refl, ap, ◌∙◌, inl, inr, append_assoc, append-nil, arith}
 use Rattle.std.proofs.lemmas.Bool.{eqb-false, eqb-true, ne_eqb, cases_lt, lt-ltb, le-ltb}
 use Rattle.language.specs.Text.{pick, or, has, added_up, fields_from}
-use Rattle.language.specs.Meaning.{State, wrong, short, weight, larger}
+use Rattle.language.specs.Meaning.{State, wrong, weight, larger}
 use Rattle.semantics.specs.Code.{Entries}
 use Rattle.semantics.specs.Lines.{Cut, whole, part, cut_line, fresh, Now, steps, waits, live_line, live_take}
 use Rattle.semantics.specs.Lines as runs

@@ -1,17 +1,15 @@
 -- Memory keeps its sizes and consists of words, whatever a turn does; turns between lines stop only where the run does.
-use Rattle.std.proofs.Common.{◌≡◌, ℕ, zero, suc, ◌+◌, ◌-◌, ◌<◌, ◌≤◌, Bool, ◌⊎◌, List, [], length, sym, refl, ap, ◌∙◌, subst, inl, inr, arith}
+use Rattle.std.proofs.Common.{◌≡◌, ℕ, ◌+◌, ◌-◌, Bool, List, [], length, sym, refl, ap, ◌∙◌, subst, inl, inr, arith}
 use Rattle.language.specs.Text.{Value}
 use Rattle.language.specs.Program.{Program}
 use Rattle.language.specs.Meaning.{State, Got, went, wrong}
 use Rattle.language.specs.Run.{done, refused}
 use Rattle.semantics.specs.Stack.{at}
 use Rattle.semantics.specs.Code.{Entries, entries}
-use Rattle.semantics.specs.Lines.{Now, Live, live, over, line_stage, fresh, steps, buffer, live_out, live_state, follow}
-use Rattle.semantics.specs.Engine.{Stopping, Over, Full, Long, RefusedWith, DoneWith}
+use Rattle.semantics.specs.Lines.{Now, Live, live, over, line_stage, fresh, buffer, live_out, follow}
+use Rattle.semantics.specs.Engine.{Stopping}
 use Rattle.store.specs.Space.{Space}
-use Rattle.regions.specs.Parts.{Parts, parts, with_fields, with_lines, with_texts}
-use Rattle.lines.specs.declared.line.Line.{Line}
-use Rattle.lines.specs.declared.input.Input.{Input}
+use Rattle.regions.specs.Parts.{Parts, parts, with_fields, with_lines}
 use Rattle.interp.specs.declared.Turn.{Turn}
 use Rattle.interp.specs.declared.Turn.TheVariants.{On, Ask, Done, Refuse}
 use Rattle.interp.specs.declared.registers.Registers.{Registers}
@@ -23,7 +21,7 @@ use Rattle.engine.specs.Scenes.{Scene, piece_taken, end_told, regs_of, saved, pu
 use Rattle.records.specs.Records.{InWords, Waits, BetweenLines, SameRecords}
 use Rattle.records.specs.Laws.{NextLine, line_begins, end_begins, asks_more, line_too_long, long_already, no_room, all_done, FieldSet, is_set, no_such_field, line_is_long, fields_heavy}
 use Rattle.records.specs.Prints.{Prints, is_out, goes_on}
-use Rattle.records.specs.Saving.{Word, Sized, Small, SmallCode, SmallLines, ValuesSo, with_values, at_place, OnlyValues}
+use Rattle.records.specs.Saving.{Sized, Small, SmallCode, SmallLines, ValuesSo, with_values, at_place, OnlyValues}
 use Rattle.records.specs.Memory.{MemorySo}
 use Rattle.records.proofs.Saving.{saved_regions, saved_registers, away_sized, away_small}
 use Rattle.records.proofs.Values.{drops, releases}

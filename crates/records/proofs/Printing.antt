@@ -1,7 +1,7 @@
 -- A print puts into the row what has room, and the rest goes into the next ones.
-use Rattle.std.proofs.Common.{◌≡◌, ℕ, zero, suc, ◌+◌, ◌-◌, ◌<◌, ◌≤◌, min, Bool, true, false, ◌&&◌, eqb, ltb, leb, ◌⊎◌, List, [], ◌∷◌, ◌++◌, length, get_or, take, drop, Some, None, Option, sym, refl, ap, ◌∙◌, subst, inl, inr, arith, length-append, length-drop, take-append-drop, length-take, drop-drop}
+use Rattle.std.proofs.Common.{◌≡◌, ℕ, zero, suc, ◌+◌, ◌-◌, ◌<◌, ◌≤◌, min, Bool, true, false, eqb, ltb, leb, List, [], ◌∷◌, ◌++◌, length, get_or, take, drop, Some, None, Option, sym, refl, ap, ◌∙◌, subst, inl, inr, arith, length-append, length-drop, take-append-drop, length-take, drop-drop}
 use Rattle.std.proofs.lemmas.List.{take_all}
-use Rattle.std.proofs.lemmas.Bool.{lt-ltb, le-ltb, eq-eqb, ne_eqb, le-leb, lt-leb, leb-true, leb-false, and_parts, and_from, cases_lt, cases_eq}
+use Rattle.std.proofs.lemmas.Bool.{lt-ltb, le-ltb, ne_eqb, le-leb, lt-leb, leb-true, leb-false, and_parts, and_from, cases_lt}
 use Rattle.language.specs.Text.{pick, Value, every, each, as_text, joined}
 use Rattle.language.specs.Meaning.{printed}
 use Rattle.language.specs.Run.{a_row}
@@ -12,14 +12,13 @@ use Rattle.store.proofs.Moving.{window_below}
 use Rattle.regions.specs.Parts.{Parts, with_registers, with_texts}
 use Rattle.store.specs.declared.cells.Value.TheVariants.{Unset}
 use Rattle.store.specs.Values.{decoded}
-use Rattle.rows.specs.Rows.{run, worths, topmost, printed_line, fitting, went}
+use Rattle.rows.specs.Rows.{run, worths, fitting, went}
 use Rattle.interp.specs.declared.Turn.TheVariants.{On}
 use Rattle.interp.specs.declared.registers.Registers.{Registers}
 use Rattle.interp.specs.Registers.{rested}
 use Rattle.interp.specs.Turns.{Did, says, releasing}
 use Rattle.engine.specs.Prints.{few, print_of, with_print, advanced, released, print_parts, print_regs, printed_so, line_text, values_text, line_printed, values_printed, pending_text, pending_left, resumed}
 use Rattle.engine.specs.Scenes.{with_room}
-use Rattle.records.specs.Records.{Current}
 use Rattle.records.specs.Prints.{InBytes, left_of, Pending, RowSo, Prints, is_out, goes_on, Resumes, once_out, once_out_regs}
 
 -- bytes of a part

@@ -1,10 +1,9 @@
 -- A field is where memory says it is.
-use Rattle.std.proofs.Common.{◌≡◌, ℕ, zero, suc, ◌+◌, ◌<◌, ◌≤◌, List, [], ◌∷◌, length, sym, refl, ap, ◌∙◌, subst, arith}
+use Rattle.std.proofs.Common.{◌≡◌, ℕ, zero, suc, List, ◌∷◌, sym, ap, arith}
 use Rattle.std.proofs.lemmas.Bool.{ne_eqb}
 use Rattle.language.specs.Text.{text}
-use Rattle.language.specs.Meaning.{State, Got, got, field_got, nth_part}
+use Rattle.language.specs.Meaning.{State, got, field_got}
 use Rattle.regions.specs.Parts.{Parts}
-use Rattle.lines.specs.Lines.{nth_place}
 use Rattle.lines.proofs.Holding.{nth_right}
 use Rattle.interp.specs.declared.registers.Registers.{Registers}
 use Rattle.interp.specs.Fields.{field_place, bytes_in}

@@ -1,5 +1,5 @@
 -- What is saved comes back: the regions from the one list, and the registers from their words.
-use Rattle.std.proofs.Common.{◌≡◌, ℕ, zero, suc, ◌+◌, ◌-◌, ◌*◌, ◌<◌, ◌≤◌, min, Bool, true, false, eqb, ◌⊎◌, List, [], ◌∷◌, ◌++◌, length, get_or, take, drop, sym, refl, ap, ◌∙◌, subst, inl, inr, arith, length-append, length-drop, length-take, drop-drop}
+use Rattle.std.proofs.Common.{◌≡◌, ℕ, zero, suc, ◌+◌, ◌-◌, ◌*◌, ◌<◌, ◌≤◌, Bool, true, false, eqb, List, [], ◌∷◌, ◌++◌, length, get_or, take, drop, sym, refl, ap, ◌∙◌, subst, arith, length-append, length-drop, drop-drop}
 use Rattle.std.proofs.lemmas.List.{take_at, drop_at, take_all, get_or-drop}
 use Rattle.language.specs.Text.{pick, each, as_text, joined}
 use Rattle.store.specs.Words.{window}
@@ -14,7 +14,7 @@ use Rattle.interp.specs.declared.registers.Stage.TheVariants.{Begin, Lines, End}
 use Rattle.interp.specs.declared.registers.Registers.{Registers}
 use Rattle.interp.specs.Registers.{flag, flag_of, stage_number, stage_of, registers_in, line_in, input_in, print_in, row_of, saved_row, rested}
 use Rattle.engine.specs.Prints.{few, line_text, values_text, pending_text}
-use Rattle.engine.specs.Scenes.{Scene, regs_of, put_away, saved, fitted}
+use Rattle.engine.specs.Scenes.{Scene, regs_of, put_away, saved}
 use Rattle.engine.proofs.Saving.{fitted_same}
 use Rattle.records.specs.Records.{InWords, BetweenLines}
 use Rattle.records.specs.Prints.{Pending}

@@ -1,12 +1,12 @@
 -- The next line is looked for: whatever comes of it, the abstract machine does the same.
-use Rattle.std.proofs.Common.{◌≡◌, ℕ, zero, suc, ◌+◌, ◌-◌, ◌%◌, ◌<◌, ◌≤◌, min, Bool, true, false, ltb, ◌⊎◌, List, [], ◌∷◌, ◌++◌, length, take, drop, Some, None, Option, sym, refl, ap, ◌∙◌, subst, inl, inr, append_assoc, arith, length-append, length-drop, length-take}
-use Rattle.std.proofs.lemmas.List.{drop_all, nil_from_length, take-append-le}
+use Rattle.std.proofs.Common.{◌≡◌, ℕ, suc, ◌+◌, ◌-◌, ◌<◌, ◌≤◌, Bool, true, false, ◌⊎◌, List, [], ◌∷◌, ◌++◌, length, take, drop, sym, refl, ap, ◌∙◌, subst, inl, inr, arith, length-append, length-drop}
+use Rattle.std.proofs.lemmas.List.{drop_all, take-append-le}
 use Rattle.std.proofs.lemmas.Bool.{lt-ltb, le-ltb, cases_lt, cases_Bool}
 use Rattle.language.specs.Text.{pick, has, none_of, fields_from}
-use Rattle.language.specs.Meaning.{State, wrong}
+use Rattle.language.specs.Meaning.{State}
 use Rattle.semantics.specs.Stack.{at}
 use Rattle.semantics.specs.Code.{Entries}
-use Rattle.semantics.specs.Lines.{Cut, whole, part, cut_line, line_stage, last_stage, fresh, Now, steps, waits, live, over, live_line, live_take, live_after}
+use Rattle.semantics.specs.Lines.{part, cut_line, line_stage, last_stage, fresh, Now, steps, waits, live, live_line, live_take, live_after}
 use Rattle.regions.specs.Parts.{Parts, with_fields}
 use Rattle.lines.specs.declared.line.Line.{Line}
 use Rattle.lines.specs.declared.input.Input.{Input}
@@ -14,22 +14,22 @@ use Rattle.lines.specs.declared.input.Found.{Found}
 use Rattle.lines.specs.declared.input.Found.TheVariants.{Whole, Part}
 use Rattle.lines.specs.Cutting.{Cuts, cuts_of, fresh_cut, closed, closed_words}
 use Rattle.lines.specs.Fields.{Sound, LineHolds}
-use Rattle.lines.specs.Laws.{ScannedSo, WholeFound, PartFound, ScanSays, LastFound, NoneLeft, LastSays, InPlace}
-use Rattle.lines.specs.Scanning.{Scanned, scan_on, scan_of, after_scan, found_of, waiting, line_at, input_of, last_of, last_words, after_last}
+use Rattle.lines.specs.Laws.{ScannedSo, WholeFound, PartFound, ScanSays, LastFound, NoneLeft, LastSays}
+use Rattle.lines.specs.Scanning.{Scanned, scan_on, scan_of, after_scan, waiting, line_at, input_of, last_of, last_words, after_last}
 use Rattle.lines.proofs.Passing.{window_length}
 use Rattle.lines.proofs.Waiting.{after_found, after_part, found_whole}
 use Rattle.lines.proofs.Holding.{scan_says, last_holds, fresh_so}
-use Rattle.interp.specs.declared.Turn.TheVariants.{On, Ask, Done, Refuse}
+use Rattle.interp.specs.declared.Turn.TheVariants.{On, Ask, Refuse}
 use Rattle.interp.specs.declared.registers.Stage.{Stage}
 use Rattle.interp.specs.declared.registers.Stage.TheVariants.{Begin, Lines, End}
 use Rattle.interp.specs.declared.registers.Registers.{Registers}
 use Rattle.interp.specs.Turns.{Did, says, after}
 use Rattle.interp.specs.Between.{opening, closing, with_input, started, started_regs, started_turn, waited_regs, waited_turn, last_started, last_taken, sought, sought_by, line_sought, line_next}
 use Rattle.interp.specs.Between as between
-use Rattle.records.specs.Records.{InWords, Current, TooLong, Waits, WithinLine, BetweenLines}
+use Rattle.records.specs.Records.{InWords, TooLong, Waits, BetweenLines}
 use Rattle.records.specs.Laws.{NextLine, line_begins, end_begins, asks_more, line_too_long, long_already, no_room, all_done, stage_meant}
 use Rattle.records.proofs.Later.{Later, Has, later_trans, has_later, closed_later, scan_later, still_so, so_few, so_none}
-use Rattle.records.proofs.Lines.{cut_whole, cut_part, no_end_before, has_front, long_take, long_line, line_heavy}
+use Rattle.records.proofs.Lines.{cut_whole, cut_part, no_end_before, has_front, long_take, line_heavy}
 use Rattle.records.proofs.Keeping.{current_kept}
 
 -- a line that was found, by its size

@@ -1,11 +1,11 @@
 -- A field is set: the new line lies in a buffer of its own, behind the bytes that wait.
-use Rattle.std.proofs.Common.{◌≡◌, ℕ, zero, suc, ◌+◌, ◌-◌, ◌<◌, ◌≤◌, min, Bool, true, false, eqb, ltb, leb, ◌⊎◌, List, [], ◌∷◌, ◌++◌, length, get_or, drop, set, Some, None, Option, sym, refl, ap, ◌∙◌, subst, inl, inr, arith, length-set, length-take}
-use Rattle.std.proofs.lemmas.Bool.{lt-ltb, le-ltb, ltb-true, ltb-false, leb-true, eq-eqb, ne_eqb, cases_lt, cases_Bool}
+use Rattle.std.proofs.Common.{◌≡◌, ℕ, zero, suc, ◌+◌, ◌-◌, ◌<◌, ◌≤◌, Bool, true, false, eqb, ltb, leb, List, [], ◌∷◌, length, get_or, drop, set, sym, refl, ap, ◌∙◌, subst, inl, inr, arith, length-set, length-take}
+use Rattle.std.proofs.lemmas.Bool.{lt-ltb, le-ltb, ltb-true, leb-true, ne_eqb, cases_lt, cases_Bool}
 use Rattle.language.specs.Text.{pick, or, Value, plus, minus, text, as_text, fields_from, joined}
-use Rattle.language.specs.Meaning.{State, wrong, Got, got, left, weight, with_line, short, field_number, store_field, set_part}
+use Rattle.language.specs.Meaning.{State, wrong, Got, got, left, with_line, short, field_number, store_field, set_part}
 use Rattle.semantics.specs.Invariants as invariants
 use Rattle.semantics.proofs.Sound.{sound_as_text}
-use Rattle.store.specs.Words.{unpacked, window, put_byte, put_bytes}
+use Rattle.store.specs.Words.{unpacked, window, put_bytes}
 use Rattle.store.proofs.Putting.{length_puts, puts_one, puts_fits, set_fits}
 use Rattle.store.proofs.Moving.{window_kept, window_below}
 use Rattle.regions.specs.Parts.{Parts, with_fields, with_lines}
@@ -16,7 +16,7 @@ use Rattle.lines.specs.Lines.{place, within, nth_place}
 use Rattle.lines.specs.Scanning.{line_at, waiting}
 use Rattle.lines.specs.Fields.{Sound, LineHolds, places_from}
 use Rattle.lines.specs.Laws.{InPlace, ScannedSo, BuiltSo, RefusedSo, BuildSays}
-use Rattle.lines.specs.Building.{buffer_of, all_pieces, total, laid, laid_one, filled, filled_if, built, after_built, after_set, with_text, recut_text, after_line, line_of}
+use Rattle.lines.specs.Building.{buffer_of, all_pieces, total, laid, laid_one, filled, filled_if, built, after_built, after_set, with_text, after_line, line_of}
 use Rattle.lines.proofs.Pieces.{buffer_second, buffer_first, buffer_below}
 use Rattle.lines.proofs.Cuts.{recut_words, length_noted}
 use Rattle.lines.proofs.Holding.{fresh_so}
@@ -26,7 +26,7 @@ use Rattle.interp.specs.declared.registers.Registers.{Registers}
 use Rattle.interp.specs.Turns.{Did, says}
 use Rattle.engine.specs.Setting.{relined, line_set, nth_set_by, nth_set, field_set_by}
 use Rattle.engine.specs.Setting as setting
-use Rattle.records.specs.Records.{InWords, Current, Waits, WithinLine}
+use Rattle.records.specs.Records.{InWords, Waits, WithinLine}
 use Rattle.records.specs.Laws.{FieldSet, is_set, no_such_field, line_is_long, fields_heavy}
 use Rattle.records.proofs.Taking.{row_bytes}
 use Rattle.records.proofs.Later.{word_small, recut_fits}

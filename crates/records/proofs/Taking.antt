@@ -1,7 +1,7 @@
 -- A piece is taken in behind what waits; the end is told.
-use Rattle.std.proofs.Common.{◌≡◌, ℕ, zero, suc, ◌+◌, ◌-◌, ◌<◌, ◌≤◌, min, Bool, true, false, ◌&&◌, ltb, leb, ◌⊎◌, List, [], ◌∷◌, ◌++◌, length, get_or, take, drop, sym, refl, ap, ◌∙◌, subst, inl, inr, append_assoc, append-nil, arith, length-append, take-append-drop, length-take}
-use Rattle.std.proofs.lemmas.List.{take_all, take-take, take-append-le, nil_from_length}
-use Rattle.std.proofs.lemmas.Bool.{ltb-true, leb-true, cases_lt, cases_Bool, and_parts}
+use Rattle.std.proofs.Common.{◌≡◌, ℕ, zero, suc, ◌+◌, ◌-◌, ◌<◌, ◌≤◌, min, Bool, true, false, ltb, leb, ◌⊎◌, List, [], ◌∷◌, ◌++◌, length, get_or, take, drop, sym, refl, ap, ◌∙◌, subst, inl, inr, append_assoc, append-nil, arith, length-append, take-append-drop, length-take}
+use Rattle.std.proofs.lemmas.List.{take_all, take-append-le, nil_from_length}
+use Rattle.std.proofs.lemmas.Bool.{ltb-true, leb-true, cases_lt, and_parts}
 use Rattle.language.specs.Text.{pick, has, every}
 use Rattle.language.specs.Meaning.{State, short}
 use Rattle.language.specs.Run.{a_row}
@@ -19,9 +19,8 @@ use Rattle.lines.specs.Scanning.{waiting, that_fits, taken_lines, after_taken, i
 use Rattle.lines.proofs.Passing.{window_length}
 use Rattle.lines.proofs.Holding.{taken_in}
 use Rattle.interp.specs.declared.registers.Registers.{Registers}
-use Rattle.interp.specs.Between.{with_input}
 use Rattle.engine.specs.Scenes.{piece_taken, end_told}
-use Rattle.records.specs.Records.{InWords, Current, TooLong, Waits, BetweenLines}
+use Rattle.records.specs.Records.{InWords, TooLong, BetweenLines}
 use Rattle.records.proofs.Lines.{cut_whole, first_end, has_front}
 use Rattle.records.proofs.Keeping.{current_kept}
 

@@ -1,17 +1,16 @@
 -- Words stay words: the region of texts, and cells.
-use Rattle.std.proofs.Common.{◌≡◌, ℕ, zero, suc, ◌+◌, ◌-◌, ◌*◌, ◌/◌, ◌%◌, ◌^◌, ◌<◌, ◌≤◌, min, Bool, true, false, cond, eqb, ltb, leb, ◌⊎◌, List, [], ◌∷◌, ◌++◌, length, get_or, take, drop, set, ℤ, pos, negsuc, Some, None, Option, sym, refl, ap, ◌∙◌, subst, inl, inr, add-zero, pow-suc, arith, length-drop, length-set, length-take, w64, Fits, to_z, of_z}
+use Rattle.std.proofs.Common.{◌≡◌, ℕ, zero, suc, ◌+◌, ◌-◌, ◌*◌, ◌%◌, ◌^◌, ◌<◌, ◌≤◌, min, Bool, true, false, cond, eqb, ltb, leb, List, [], ◌∷◌, ◌++◌, length, get_or, take, drop, set, Some, None, Option, sym, refl, ◌∙◌, subst, inl, inr, add-zero, pow-suc, arith, length-drop, length-set, length-take, w64, Fits, to_z}
 use lib.Seq.{paste, length-paste}
 use mir.Facts.{of_z-to_z}
-use Rattle.std.proofs.lemmas.List.{get_or-drop, get_or-take, get_or_past}
-use Rattle.std.proofs.lemmas.Bool.{ltb-true, ltb-false, leb-true, leb-false, cases_lt, cases_Bool}
+use Rattle.std.proofs.lemmas.List.{get_or-take, get_or_past}
+use Rattle.std.proofs.lemmas.Bool.{ltb-true, leb-true, cases_lt}
 use Rattle.language.specs.Text.{pick}
 use Rattle.store.specs.declared.texts.Handle.{Handle}
 use Rattle.store.specs.declared.short.Short.{Short}
 use Rattle.store.specs.declared.cells.Value.{Value}
 use Rattle.store.specs.declared.cells.Value.TheVariants.{Unset, Number, Text, Short as InShort}
-use Rattle.store.specs.Words.{put_bytes}
 use Rattle.store.specs.Short.{low_short, short_of}
-use Rattle.store.specs.Space.{Space, Given, handle_of, with_top, with_heap, with_table, with_free, put_word, put_entry, span, place, moved, step_of, slid, compacted, taken, tried, allocated, raised, freed, lowered, bytes_at, written}
+use Rattle.store.specs.Space.{Space, Given, handle_of, with_top, with_heap, with_free, put_word, put_entry, span, place, moved, step_of, slid, compacted, taken, tried, allocated, raised, freed, lowered, bytes_at, written}
 use Rattle.store.specs.Values.{decode, decoded, kind_of, payload_of, saved, kept, let_go, Made, filled, made}
 use Rattle.store.proofs.Putting.{set_fits, puts_fits, length_puts}
 use Rattle.records.specs.Records.{InWords}

@@ -1,5 +1,5 @@
 -- What an operation changes: the stack, the slots and the texts, which stay of words.
-use Rattle.std.proofs.Common.{◌≡◌, ℕ, zero, suc, ◌+◌, ◌-◌, ◌/◌, ◌%◌, ◌<◌, ◌≤◌, Bool, true, false, not, eqb, ltb, leb, List, [], ◌∷◌, ◌++◌, length, get_or, pos, negsuc, Some, None, Option, sym, refl, ap, ◌∙◌, subst, arith}
+use Rattle.std.proofs.Common.{◌≡◌, ℕ, zero, suc, ◌+◌, ◌-◌, ◌/◌, ◌%◌, ◌<◌, Bool, true, false, not, eqb, ltb, leb, List, [], ◌∷◌, ◌++◌, length, get_or, pos, negsuc, Some, None, Option, refl, ap, ◌∙◌, subst, arith}
 use Rattle.std.proofs.lemmas.Bool.{ltb-true}
 use Rattle.language.specs.Text
 use Rattle.language.specs.Text.{pick, plus, minus, text, as_text, truth, Num, too_large, fine, within, number_of, is_zero, limit}
@@ -17,28 +17,28 @@ use Rattle.store.specs.declared.cells.Value.{Value}
 use Rattle.store.specs.declared.cells.Value.TheVariants.{Unset, Number, Text as InText, Short as InShort}
 use Rattle.store.specs.Short.{short_of}
 use Rattle.store.specs.Space.{Space, allocated, text_of, written, length_of, bytes_at}
-use Rattle.store.specs.Values.{decoded, saved, worth, kept, let_go, Made, made}
+use Rattle.store.specs.Values.{decoded, made}
 use Rattle.store.proofs.Packing.{bytes_below}
 use Rattle.store.proofs.Moving.{window_below}
 use Rattle.store.proofs.Digits.{number_below}
-use Rattle.regions.specs.Parts.{Parts, with_texts, with_stack, with_slots}
+use Rattle.regions.specs.Parts.{Parts, with_texts}
 use Rattle.interp.specs.declared.Turn.{Turn}
 use Rattle.interp.specs.declared.Turn.TheVariants.{On, Refuse}
 use Rattle.interp.specs.declared.ops.Op.{Op}
 use Rattle.interp.specs.declared.ops.Op.TheVariants.{Load, Save, LineCount, FieldCount, GetField, SetField, Not, Opposite, Calculate, Compare, Join, Unknown, Truth, Fail, Jump, JumpIf, JumpUnless, Drop, PrintLine, PrintValues, LeaveLine, Exit, End}
 use Rattle.interp.specs.declared.registers.Registers.{Registers}
-use Rattle.interp.specs.Fields.{bytes_in, field_place, put_new, field_put, field_by, field_got}
-use Rattle.interp.specs.Jumps.{nothing_done, judged, negated, jumped, taking, jumped_if, jumped_unless, between, top_holds}
+use Rattle.interp.specs.Fields.{bytes_in, field_place, put_new, field_by, field_got}
+use Rattle.interp.specs.Jumps.{nothing_done, judged, negated, taking, jumped_if, jumped_unless, top_holds}
 use Rattle.interp.specs.Numbers.{settled, figured, figured_one}
 use Rattle.interp.specs.Ops.{op_in, one_of, two_of}
 use Rattle.interp.specs.Slots.{slot_of, slotting, loaded, kept_in, line_counted, fields_counted}
-use Rattle.interp.specs.Texts.{text_in, putting, joined_in, joined_long, joined_as, joined}
-use Rattle.interp.specs.Turns.{Did, says, placed, after, top_of, under_of, worth_in, holding, releasing, stacking, pushed, replaced, replaced_two, dropped, truth_of}
+use Rattle.interp.specs.Texts.{text_in, joined_in, joined_long, joined}
+use Rattle.interp.specs.Turns.{Did, says, after, top_of, under_of, worth_in, holding, releasing, stacking, pushed, replaced, replaced_two, dropped, truth_of}
 use Rattle.engine.specs.Prints.{released}
 use Rattle.engine.specs.Dispatch.{fetched, performed}
 use Rattle.records.specs.Records.{InWords, SameRecords}
 use Rattle.records.specs.Saving.{Word, TextsSo, SmallValue, SmallCode, ValuesSo, at_place, with_values, OnlyValues, PlainOp}
-use Rattle.records.proofs.Texts.{short_value, word_number, unset_value, text_value, decoded_small, saved_size, saved_small, allocated_so, written_so, kept_so, let_go_so, ValueSo, MadeSo, made_so}
+use Rattle.records.proofs.Texts.{short_value, word_number, text_value, decoded_small, saved_size, saved_small, allocated_so, written_so, kept_so, let_go_so, ValueSo, MadeSo, made_so}
 
 -- what follows from it
 

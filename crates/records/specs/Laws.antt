@@ -21,7 +21,7 @@ use Rattle.interp.specs.Fields.{field_place, bytes_in}
 use Rattle.engine.specs.Setting.{relined, field_set_by}
 use Rattle.engine.specs.Setting as setting
 use Rattle.engine.specs.Scenes.{piece_taken, end_told}
-use Rattle.records.specs.Records.{Current, Waits, WithinLine, BetweenLines, SameRecords}
+use Rattle.records.specs.Records.{Current, WithinLine, BetweenLines, SameRecords}
 
 -- the stage that a register names
 abbrev pub stage_meant : Stage → runs.Stage

@@ -1,6 +1,6 @@
 -- Memory stays what it is made of, and turns between lines stop only where the run does. Assumes nothing: these are definitions and statements, and the
 -- functions that carry them are proved.
-use Rattle.std.specs.Prelude.{◌≡◌, ℕ, Bool, List, []}
+use Rattle.std.specs.Prelude.{◌≡◌, ℕ, Bool, List}
 use Rattle.language.specs.Text.{Value}
 use Rattle.language.specs.Program.{Program}
 use Rattle.language.specs.Meaning.{State, Got}

@@ -1,6 +1,6 @@
 -- What is printed: the row that a step fills, and a print that goes on in the next one. Assumes nothing: these are definitions and statements, and the
 -- functions that carry them are proved.
-use Rattle.std.specs.Prelude.{◌≡◌, ℕ, ◌+◌, ◌-◌, ◌<◌, ◌≤◌, Bool, true, false, ltb, ◌⊎◌, List, [], ◌∷◌, ◌++◌, length, Some, None, Option, ◌≢◌, nat_le, nat_lt}
+use Rattle.std.specs.Prelude.{◌≡◌, ℕ, ◌+◌, ◌-◌, ◌<◌, ◌≤◌, true, false, ltb, ◌⊎◌, List, [], ◌∷◌, ◌++◌, length, Some, None, Option, ◌≢◌, nat_le, nat_lt}
 use Rattle.language.specs.Text.{pick, Value, every}
 use Rattle.language.specs.Meaning.{printed}
 use Rattle.language.specs.Run.{a_row}

@@ -1,5 +1,7 @@
 // The current line, the bytes that wait and what is printed: what memory has of them, beside the meaning. The functions below do nothing when they
 // are called; each one's contract is a theorem, and the crate is accepted only with its proof.
+#![tactic(auto)]
+
 ghost use Rattle.records.specs.Laws.{LinesFollow, RecordsKept, ToldRight, FieldsRead, FieldsSet};
 ghost use Rattle.records.specs.Prints.{PrintsRight, OnceOut};
 ghost use Rattle.records.specs.Saving.{SavedRight, ValuesKept};

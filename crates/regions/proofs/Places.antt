@@ -1,5 +1,5 @@
 -- Places in words.
-use Rattle.std.proofs.Common.{◌≡◌, ℕ, ◌+◌, ◌*◌, ◌/◌, ◌%◌, ◌<◌, arith}
+use Rattle.std.proofs.Common.{◌≡◌, ℕ, ◌<◌, arith}
 use Rattle.regions.specs.declared.fields.Place.{Place}
 use Rattle.regions.specs.Places.{place_word, place_of}
 

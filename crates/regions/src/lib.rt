@@ -1,4 +1,6 @@
 // The regions of the machine's memory, and what is done with each of them over the whole memory.
+#![tactic(auto)]
+
 pub mod cells;
 pub mod fields;
 pub mod lines;

@@ -1,4 +1,6 @@
 // A report over files: runs a program over their lines, and prints what it writes.
+#![tactic(auto)]
+
 use std::process::ExitCode;
 
 fn main(rt: HostRuntime) -> anyhow::Result<ExitCode> {

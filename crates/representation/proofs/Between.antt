@@ -1,43 +1,39 @@
 -- Between two runs through the code: the next line, the end, a line that is too long, or nothing to be done before more comes.
-use Rattle.std.proofs.Common.{◌≡◌, ℕ, zero, suc, ◌+◌, ◌-◌, ◌*◌, ◌%◌, ◌<◌, ◌≤◌, min, Bool, true, false, ltb, ◌⊎◌, List, [], ◌∷◌, ◌++◌, length, get_or, take, drop, Some, None, sym, refl, ap, ◌∙◌, subst, inl, inr, append_assoc, append-nil, mod-eq_of_lt, arith, length-append, le-ltb, lt-ltb}
+use Rattle.std.proofs.Common.{◌≡◌, ℕ, zero, suc, ◌+◌, ◌-◌, ◌*◌, ◌<◌, ◌≤◌, Bool, true, false, ltb, ◌⊎◌, List, [], ◌∷◌, ◌++◌, length, take, drop, sym, refl, ap, ◌∙◌, subst, inl, inr, append_assoc, append-nil, mod-eq_of_lt, arith, length-append, le-ltb, lt-ltb}
 use Rattle.std.proofs.lemmas.Bool.{ltb-true, ltb-false, true≢false}
 use Rattle.language.specs.Text
 use Rattle.language.specs.Text.{pick, each, added_up, has, none_of, fields_from}
 use Rattle.language.specs.Program.{Program}
-use Rattle.language.specs.Meaning.{State, Bind, Went, went, nexted, stopped, given, wrong, unfinished, weight, larger, short, with_frames, state_of}
+use Rattle.language.specs.Meaning.{State, Bind, Went, went, nexted, stopped, given, wrong, unfinished, weight, larger, with_frames, state_of}
 use Rattle.language.specs.Run.{refused}
 use Rattle.semantics.specs.Stack.{at, off}
 use Rattle.semantics.specs.Code.{program_code}
 use Rattle.semantics.specs.Code as code
 use Rattle.semantics.specs.Lines
 use Rattle.semantics.specs.Lines.{first_stage, line_stage, last_stage, fresh, Cut, whole, part, cut_line, Live, live, over, Now, steps, waits, follow, live_out, live_line, live_take, live_after, Goes}
-use Rattle.semantics.specs.Engine.{Comes, Over, Full, Long, DoneWith, RefusedWith, Stopping}
+use Rattle.semantics.specs.Engine.{Over, RefusedWith, Stopping}
 use Rattle.assembly.specs.Assembly.{Pool, lean_place, pool, entries}
 use Rattle.store.specs.declared.cells.Value.{Value}
-use Rattle.store.specs.Words.{window}
 use Rattle.regions.specs.Parts.{Parts, with_fields}
-use Rattle.lines.specs.declared.line.Line.{Line}
 use Rattle.lines.specs.declared.input.Input.{Input}
-use Rattle.lines.specs.declared.input.Found.TheVariants.{Whole, Part}
 use Rattle.lines.specs.Cutting.{cuts_of, fresh_cut, closed_words, pass_all}
 use Rattle.lines.specs.Fields.{Sound, LineHolds}
-use Rattle.lines.specs.Laws.{ScannedSo, WholeFound, PartFound, ScanSays, LastFound, NoneLeft, LastSays, InPlace}
+use Rattle.lines.specs.Laws.{ScannedSo, WholeFound, PartFound, ScanSays, LastFound, NoneLeft, LastSays}
 use Rattle.lines.specs.Scanning.{Scanned, scan_on, scan_of, after_scan, found_of, waiting, input_of, line_at, last_words, after_last, last_of}
 use Rattle.lines.proofs.Holding.{scan_says, last_holds, fresh_so}
 use Rattle.lines.proofs.Passing.{window_length}
 use Rattle.lines.proofs.Waiting.{after_found, after_part}
-use Rattle.interp.specs.declared.Turn.{Turn}
-use Rattle.interp.specs.declared.Turn.TheVariants.{On, Ask, Done, Refuse}
+use Rattle.interp.specs.declared.Turn.TheVariants.{On, Ask, Refuse}
 use Rattle.interp.specs.declared.registers.Stage.{Stage}
 use Rattle.interp.specs.declared.registers.Stage.TheVariants.{Begin, Lines as ForLines, End}
 use Rattle.interp.specs.declared.registers.Registers.{Registers}
-use Rattle.interp.specs.Turns.{Did, says, after}
+use Rattle.interp.specs.Turns.{says}
 use Rattle.interp.specs.Jumps.{between}
 use Rattle.interp.specs.Between as turns
 use Rattle.interp.specs.Between.{opening, closing, with_input, started_regs, started_turn, started, waited_regs, waited_turn, last_started, last_taken, sought, line_sought, next_by, line_next}
 use Rattle.representation.specs.Values.{Holds}
-use Rattle.representation.specs.Relation.{stage_is, Loaded, LineSo, Running, Waits, Between, Rests, Stands, Rep}
-use Rattle.representation.specs.Outcomes.{RowKept, Outcome, Follows, Performs}
+use Rattle.representation.specs.Relation.{stage_is, LineSo, Running, Between, Rests, Rep}
+use Rattle.representation.specs.Outcomes.{Outcome, Follows}
 use Rattle.representation.proofs.Stack.{depth_is}
 use Rattle.representation.proofs.Running.{kept_row}
 use Rattle.representation.proofs.Rescanning.{rescan, rescan_last}

@@ -1,25 +1,21 @@
 -- The code of a known program, as the operations need it.
-use Rattle.std.proofs.Common.{◌≡◌, ℕ, zero, suc, ◌+◌, ◌<◌, ◌≤◌, Bool, true, false, ltb, leb, ◌⊎◌, List, [], ◌∷◌, ◌++◌, length, get_or, sym, refl, ap, ◌∙◌, subst, inl, inr, add-suc, suc-add, zero-add, arith}
-use Rattle.std.proofs.lemmas.Bool.{cases_lt, and_parts, leb-true, true≢false}
+use Rattle.std.proofs.Common.{◌≡◌, ℕ, zero, suc, ◌+◌, ◌<◌, ◌≤◌, Bool, true, false, ◌⊎◌, List, [], ◌∷◌, length, get_or, sym, refl, ap, ◌∙◌, subst, inl, inr, suc-add, zero-add, arith}
+use Rattle.std.proofs.lemmas.Bool.{cases_lt, true≢false}
 use Rattle.std.proofs.lemmas.List.{get_or_past}
-use Rattle.language.specs.Text.{pick, same, text, as_text, plus, minus, Value}
-use Rattle.language.specs.Text
+use Rattle.language.specs.Text.{pick, same, text, Value}
 use Rattle.language.specs.Program.{Program, Fun, reads}
 use Rattle.language.specs.Meaning.{State, Got, got, left, note, w_nr, w_nf}
 use Rattle.language.specs.Run.{a_row}
-use Rattle.language.specs.Known.{core}
 use Rattle.semantics.specs.Stack.{Cell, val, ret, keys, held, below_top, Config, at, off, exec, land, with_top, Instr, note_all, note_below, push_number, push_text, push_value, load_variable, load_field, load_item, apply_one, apply_two, to_truth, match_top, has_key, cut_part, split_into, save_variable, save_field, save_item, swap_variable, swap_field, swap_item, fail, jump, jump_if, jump_unless, drop_top, print_line, print_values, leave_line, exit_run, end_rules, call_function, return_empty, return_value, push_keys, next_key, delete_item}
 use Rattle.semantics.specs.Code.{code, program_code}
-use Rattle.semantics.specs.Lines.{Stage, Live, live, over, steps, follow, live_out, Goes}
+use Rattle.semantics.specs.Lines.{Stage, Live, live, steps, Goes}
 use Rattle.semantics.specs.Engine.{Comes}
-use Rattle.semantics.specs.Invariants.{All, all_none, all_more, Noted, Followed, SoundLive, live_at, live_off, live_over, SoundState, SoundFrame, Values, takes}
+use Rattle.semantics.specs.Invariants.{All, all_none, all_more, Noted, Followed, takes}
 use Rattle.semantics.proofs.Pieces.{reached_goes}
-use Rattle.semantics.proofs.Theorems.{sound_runs, noted_code}
-use Rattle.assembly.specs.Assembly.{Op, op_load, op_save, op_line_count, op_field_count, op_get_field, op_set_field, op_one, op_two, op_truth, op_fail, op_jump, op_jump_if, op_jump_unless, op_drop, op_print_line, op_print_values, op_leave_line, op_exit, op_end, Entry, named, literal, Pool, slot_of, Shape, outside, shape, is_note, is_count, lean_place, op_for, pool_after, translated, assemble, ops, pool, op_at}
-use Rattle.assembly.specs.Laws.{Holds, Means, Corresponds, Loads, Saves, Fits, most_ops, in_core}
+use Rattle.semantics.proofs.Theorems.{noted_code}
+use Rattle.assembly.specs.Assembly.{Op, op_load, op_save, op_line_count, op_field_count, op_get_field, op_set_field, op_one, op_two, op_truth, op_fail, op_jump, op_jump_if, op_jump_unless, op_drop, op_print_line, op_print_values, op_leave_line, op_exit, op_end, named, literal, Pool, slot_of, shape, is_note, is_count, lean_place, pool_after, translated, assemble, ops, pool}
+use Rattle.assembly.specs.Laws.{Means, Loads, Saves}
 use Rattle.assembly.proofs.Correspondence.{correspondence, length_for}
-use Rattle.assembly.proofs.Sizes.{sizes}
-use Rattle.assembly.proofs.Known.{only_known}
 use Rattle.representation.specs.Room.{Apart}
 use Rattle.representation.specs.Outcomes.{Pushes}
 

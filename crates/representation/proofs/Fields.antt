@@ -1,30 +1,25 @@
 -- A field of the line as a value: its bytes, and that there is room for them.
-use Rattle.std.proofs.Common.{◌≡◌, ℕ, zero, suc, ◌+◌, ◌*◌, ◌/◌, ◌<◌, ◌≤◌, Bool, true, false, ◌⊎◌, List, [], ◌∷◌, length, get_or, Some, None, sym, refl, ap, ◌∙◌, subst, inl, inr, arith, ne_eqb}
+use Rattle.std.proofs.Common.{◌≡◌, ℕ, zero, suc, ◌+◌, ◌<◌, ◌≤◌, Bool, ◌⊎◌, List, [], ◌∷◌, length, get_or, sym, refl, subst, inl, inr, arith, ne_eqb}
 use Rattle.language.specs.Text
 use Rattle.language.specs.Text.{each, text, as_text, number_of}
 use Rattle.language.specs.Program.{Program}
-use Rattle.language.specs.Meaning.{State, got, wrong, weight, binds_size, nth_part, field_number, field_got}
-use Rattle.semantics.specs.Stack.{val, held, at, off, land}
+use Rattle.language.specs.Meaning.{State, got, weight, binds_size, nth_part, field_number, field_got}
+use Rattle.semantics.specs.Stack.{val, held, at, land}
 use Rattle.semantics.specs.Lines.{Stage}
 use Rattle.assembly.specs.Assembly.{op_get_field, pool}
 use Rattle.assembly.specs.Machine.{op_exec}
-use Rattle.store.specs.declared.cells.Value.{Value}
-use Rattle.store.specs.Words.{window}
 use Rattle.store.specs.Space.{span}
-use Rattle.store.specs.Values.{Made, made}
+use Rattle.store.specs.Values.{made}
 use Rattle.store.proofs.Moving.{window_below}
 use Rattle.regions.specs.Parts.{Parts, with_texts}
 use Rattle.lines.proofs.Holding.{nth_right}
-use Rattle.interp.specs.declared.Turn.TheVariants.{Refuse}
 use Rattle.interp.specs.declared.registers.Registers.{Registers}
-use Rattle.interp.specs.Turns.{says, top_of, worth_in, replaced}
 use Rattle.interp.specs.Fields as fields
 use Rattle.interp.specs.Fields.{field_place, bytes_in, put_new, field_put, field_by}
-use Rattle.representation.specs.Values.{Holds}
 use Rattle.representation.specs.Room.{Apart, Slight}
 use Rattle.representation.specs.Relation.{Running}
 use Rattle.representation.specs.Outcomes.{Performs}
-use Rattle.representation.proofs.Room.{word_cost, room_one}
+use Rattle.representation.proofs.Room.{room_one}
 use Rattle.representation.proofs.Making.{MadeSo, Unmade, makes}
 use Rattle.representation.proofs.Stack.{top_worth}
 use Rattle.representation.proofs.Running.{kept_row, re_text, replaces_so, fails_so}

@@ -1,23 +1,23 @@
 -- From an operation to the run: what an operation does is the next instruction that is no note, after the notes before it.
-use Rattle.std.proofs.Common.{◌≡◌, ℕ, zero, suc, ◌+◌, ◌<◌, ◌≤◌, Bool, true, false, ltb, leb, ◌⊎◌, List, [], ◌∷◌, ◌++◌, length, get_or, sym, refl, ap, ◌∙◌, subst, inl, inr, arith}
+use Rattle.std.proofs.Common.{◌≡◌, ℕ, zero, suc, ◌+◌, ◌<◌, ◌≤◌, Bool, true, false, ltb, leb, List, [], ◌∷◌, length, sym, refl, ap, ◌∙◌, subst, inl, inr, arith}
 use Rattle.std.proofs.lemmas.Bool.{and_parts, leb-true, true≢false}
 use Rattle.language.specs.Text
 use Rattle.language.specs.Text.{each, every, as_text}
 use Rattle.language.specs.Program.{Program, reads}
-use Rattle.language.specs.Meaning.{State, Bind, Went, stopped, wrong, weight, settled, state_of}
-use Rattle.language.specs.Run.{a_row, done, refused}
+use Rattle.language.specs.Meaning.{State, Bind, Went, stopped, wrong, settled, state_of}
+use Rattle.language.specs.Run.{a_row, refused}
 use Rattle.language.specs.Known.{core}
-use Rattle.semantics.specs.Stack.{Cell, val, ret, keys, held, below_top, Config, at, off, config_state, exec, call_function}
+use Rattle.semantics.specs.Stack.{Cell, val, Config, at, off, config_state, exec}
 use Rattle.semantics.specs.Code.{code, program_code}
 use Rattle.semantics.specs.Code as code
 use Rattle.semantics.specs.Lines.{Stage, Live, live, over, steps, waits, follow, live_out, live_state, live_driven, buffer, Goes}
 use Rattle.semantics.specs.Engine.{Comes, Over, Full, Long, DoneWith, RefusedWith, Stopping}
-use Rattle.semantics.specs.Invariants.{All, all_none, all_more, Sound, SoundLive, live_at, live_off, live_over, SoundState, SoundFrame, SoundCell, cell_value, Values, takes, Noted}
+use Rattle.semantics.specs.Invariants.{All, all_none, all_more, Sound, SoundLive, live_at, SoundState, SoundFrame, SoundCell, cell_value, Values, takes, Noted}
 use Rattle.semantics.proofs.Theorems.{sound_runs}
 use Rattle.semantics.proofs.Full.{full_below}
-use Rattle.assembly.specs.Assembly.{Op, op_load, op_save, op_line_count, op_field_count, op_get_field, op_set_field, op_one, op_two, op_truth, op_fail, op_jump, op_jump_if, op_jump_unless, op_drop, op_print_line, op_print_values, op_leave_line, op_exit, op_end, shape, is_note, lean_place, ops, pool, op_at}
+use Rattle.assembly.specs.Assembly.{Op, op_end, shape, is_note, lean_place, ops, pool, op_at}
 use Rattle.assembly.specs.Machine.{op_exec, lean_config}
-use Rattle.assembly.specs.Laws.{Fits, FitsOp, in_core}
+use Rattle.assembly.specs.Laws.{FitsOp, in_core}
 use Rattle.assembly.proofs.Correspondence.{correspondence}
 use Rattle.assembly.proofs.Machine.{steps as op_steps}
 use Rattle.assembly.proofs.Sizes.{sizes}
@@ -29,7 +29,7 @@ use Rattle.interp.specs.declared.registers.Registers.{Registers}
 use Rattle.interp.specs.Turns.{Did}
 use Rattle.representation.specs.Room.{Apart, Slight}
 use Rattle.representation.specs.Relation.{Running, Stands, Rep}
-use Rattle.representation.specs.Outcomes.{RowKept, Outcome, Follows, Pushes, Heavy, Leaves, EmptyAtEnds, OpOutcome, Performs}
+use Rattle.representation.specs.Outcomes.{Outcome, Follows, Pushes, Heavy, Leaves, EmptyAtEnds, OpOutcome, Performs}
 use Rattle.representation.proofs.Codes.{lean_within, pool_apart, OpOk, op_takes, behind, all_at, followed_all, with_heavy, through_notes, goes_then, comes_goes}
 
 -- what an operation finds

@@ -1,15 +1,14 @@
 -- Two texts as one: too long, short enough for a cell, or a new text.
-use Rattle.std.proofs.Common.{◌≡◌, ℕ, zero, suc, ◌+◌, ◌*◌, ◌/◌, ◌<◌, ◌≤◌, Bool, true, false, ltb, leb, ◌⊎◌, List, [], ◌∷◌, ◌++◌, length, get_or, Some, None, sym, refl, ap, ◌∙◌, subst, inl, inr, arith, length-append}
+use Rattle.std.proofs.Common.{◌≡◌, ℕ, zero, suc, ◌+◌, ◌<◌, ◌≤◌, Bool, true, false, ltb, leb, ◌⊎◌, List, [], ◌∷◌, ◌++◌, length, get_or, sym, refl, ap, ◌∙◌, subst, inl, inr, arith, length-append}
 use Rattle.std.proofs.lemmas.Bool.{ltb-true, leb-true, leb-false, and_parts}
 use Rattle.language.specs.Text
 use Rattle.language.specs.Text.{pick, each, every, text, as_text}
 use Rattle.language.specs.Program.{Program}
-use Rattle.language.specs.Meaning.{State, got, left, wrong, weight, reckon, short}
-use Rattle.semantics.specs.Stack.{val, held, at, off, land}
+use Rattle.language.specs.Meaning.{State, got, left, wrong, weight, reckon}
+use Rattle.semantics.specs.Stack.{val, held, at, land}
 use Rattle.semantics.specs.Lines.{Stage}
 use Rattle.assembly.specs.Assembly.{op_two, pool}
 use Rattle.assembly.specs.Machine.{op_exec}
-use Rattle.store.specs.declared.cells.Value.{Value}
 use Rattle.store.specs.declared.cells.Value.TheVariants.{Text as InText, Short as InShort}
 use Rattle.store.specs.Words.{over}
 use Rattle.store.specs.Short.{short_of}
@@ -19,13 +18,13 @@ use Rattle.store.proofs.Reading.{filled}
 use Rattle.regions.specs.Parts.{Parts, with_texts}
 use Rattle.interp.specs.declared.Turn.TheVariants.{Refuse}
 use Rattle.interp.specs.declared.registers.Registers.{Registers}
-use Rattle.interp.specs.Turns.{Did, says, top_of, under_of, worth_in, replaced_two}
+use Rattle.interp.specs.Turns.{Did, says, top_of, under_of, replaced_two}
 use Rattle.interp.specs.Texts.{text_in, putting, joined_in, joined_long, joined_as, joined}
 use Rattle.representation.specs.Values.{Holds}
 use Rattle.representation.specs.Room.{Apart, Slight}
 use Rattle.representation.specs.Relation.{Running}
 use Rattle.representation.specs.Outcomes.{Performs}
-use Rattle.representation.proofs.Room.{word_cost, room_two}
+use Rattle.representation.proofs.Room.{room_two}
 use Rattle.representation.proofs.Moves.{in_hand_plain}
 use Rattle.representation.proofs.Making.{Taken, Untaken, takes_new, fills}
 use Rattle.representation.proofs.Stack.{top_worth, under_worth}

@@ -1,5 +1,5 @@
 -- A new text comes into the hand, and is filled.
-use Rattle.std.proofs.Common.{◌≡◌, ℕ, zero, suc, ◌+◌, ◌-◌, ◌*◌, ◌/◌, ◌<◌, ◌≤◌, Bool, true, false, ◌≢◌, ◌⊎◌, List, [], ◌∷◌, ◌++◌, length, get_or, ℤ, pos, negsuc, Some, None, Option, sym, refl, ap, ◌∙◌, subst, inl, inr, arith}
+use Rattle.std.proofs.Common.{◌≡◌, ℕ, ◌+◌, ◌<◌, ◌≤◌, ◌⊎◌, List, [], ◌∷◌, ◌++◌, length, get_or, ℤ, pos, negsuc, Some, None, sym, refl, ap, ◌∙◌, subst, inl, inr, arith}
 use Rattle.std.proofs.lemmas.Bool.{cases_eq, cases_lt}
 use Rattle.language.specs.Text
 use Rattle.language.specs.Text.{each, text, as_text}
@@ -10,19 +10,19 @@ use Rattle.store.specs.Words.{over}
 use Rattle.store.specs.Numbers.{number}
 use Rattle.store.specs.Short.{short_of}
 use Rattle.store.specs.Space.{Space, Given, span, handle_of, allocated, written}
-use Rattle.store.specs.Model.{is, occ}
-use Rattle.store.specs.Laws.{Texts, changed, spans, Fresh, Crowded}
-use Rattle.store.specs.Values.{decoded, held_by, worth, Made, made}
-use Rattle.store.specs.Worth.{meant, Plain, New, NoWords}
+use Rattle.store.specs.Model.{occ}
+use Rattle.store.specs.Laws.{Texts, changed, spans}
+use Rattle.store.specs.Values.{decoded, held_by, Made, made}
+use Rattle.store.specs.Worth.{meant, Plain}
 use Rattle.store.proofs.Basics.{occ_append, is_same, is_other}
 use Rattle.store.proofs.Coding.{made_short}
 use Rattle.store.proofs.Faces.{faces, changed_same, changed_other}
 use Rattle.store.proofs.Meanings.{value_laws}
 use Rattle.store.proofs.Reading.{filled}
 use Rattle.regions.specs.Parts.{Parts, with_texts}
-use Rattle.assembly.specs.Assembly.{Pool, literal}
+use Rattle.assembly.specs.Assembly.{Pool}
 use Rattle.interp.specs.Turns.{worth_in}
-use Rattle.representation.specs.Values.{held_all, stacked, slotted, holders, Holds}
+use Rattle.representation.specs.Values.{stacked, holders, Holds}
 use Rattle.representation.proofs.Cells.{held_member, meant_same, all_same}
 use Rattle.representation.proofs.Moves.{occ_all, occ_hand, first_of, rest_of, retexts}
 

@@ -1,26 +1,26 @@
 -- The moves: what small parts of an operation do to the values that memory holds and to those in the hand.
-use Rattle.std.proofs.Common.{◌≡◌, ℕ, zero, suc, ◌+◌, ◌-◌, ◌*◌, ◌/◌, ◌<◌, ◌≤◌, Bool, true, false, ◌≢◌, ◌⊎◌, List, [], ◌∷◌, ◌++◌, length, get_or, set, sym, refl, ap, ◌∙◌, subst, inl, inr, le_refl, arith, length-append, get_or-set_other, get_or-set_same}
+use Rattle.std.proofs.Common.{◌≡◌, ℕ, suc, ◌+◌, ◌<◌, ◌≤◌, ◌≢◌, List, [], ◌∷◌, ◌++◌, length, get_or, set, sym, ap, ◌∙◌, subst, inl, inr, arith, length-append, get_or-set_other, get_or-set_same}
 use Rattle.std.proofs.lemmas.Bool.{cases_eq}
 use Rattle.language.specs.Text
 use Rattle.language.specs.Text.{each, text, same}
-use Rattle.language.specs.Meaning.{Bind, bound, set_bound, first_or}
+use Rattle.language.specs.Meaning.{Bind}
 use Rattle.store.specs.declared.cells.Value.{Value}
-use Rattle.store.specs.declared.cells.Value.TheVariants.{Unset, Number, Text as InText, Short as InShort}
+use Rattle.store.specs.declared.cells.Value.TheVariants.{Unset}
 use Rattle.store.specs.Space.{Space}
-use Rattle.store.specs.Model.{is, occ}
+use Rattle.store.specs.Model.{occ}
 use Rattle.store.specs.Laws.{Texts}
-use Rattle.store.specs.Values.{decoded, saved, held_by, kept, let_go}
+use Rattle.store.specs.Values.{decoded, saved, held_by, kept}
 use Rattle.store.specs.Worth.{meant, Plain}
 use Rattle.store.proofs.Basics.{occ_append}
 use Rattle.store.proofs.Coding.{length_decoded}
 use Rattle.store.proofs.Faces.{faces}
 use Rattle.store.proofs.Meanings.{value_laws}
-use Rattle.regions.specs.Parts.{Parts, with_texts, with_stack, with_slots}
-use Rattle.assembly.specs.Assembly.{Entry, named, literal, Pool}
+use Rattle.regions.specs.Parts.{Parts, with_texts}
+use Rattle.assembly.specs.Assembly.{literal, Pool}
 use Rattle.interp.specs.Turns.{holding, releasing, stacking}
 use Rattle.interp.specs.Slots.{slotting}
 use Rattle.representation.specs.Values.{tops, held_all, stacked, slotted, holders, entry_worth, Holds}
-use Rattle.representation.proofs.Cells.{decoded_saved, saved_wide, tops_above, tops_push, held_member, held_set, held_few, meant_same, all_same}
+use Rattle.representation.proofs.Cells.{decoded_saved, saved_wide, tops_push, held_member, held_set, held_few, meant_same, all_same}
 
 -- who holds a text, all together
 pub occ_all : (h : ℕ) (hand : List Value) (m : Parts) (n k : ℕ) →

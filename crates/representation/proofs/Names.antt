@@ -1,11 +1,10 @@
 -- Slots of names and constants: what a state holds under them, and how much that is.
-use Rattle.std.proofs.Common.{◌≡◌, ℕ, zero, suc, ◌+◌, ◌-◌, ◌*◌, ◌<◌, ◌≤◌, Bool, true, false, leb, List, [], ◌∷◌, ◌++◌, length, get_or, sym, refl, ap, ◌∙◌, subst, inl, inr, le_refl, zero-add, arith}
-use Rattle.language.specs.Text.{pick, same, added_up, Value, plus, minus, text, as_text}
-use Rattle.language.specs.Meaning.{Bind, bound, set_bound, first_or, size_of, binds_size}
+use Rattle.std.proofs.Common.{◌≡◌, ℕ, zero, suc, ◌+◌, ◌<◌, ◌≤◌, Bool, true, false, List, [], ◌∷◌, length, get_or, sym, refl, ap, ◌∙◌, subst, le_refl, arith}
+use Rattle.language.specs.Text.{pick, same, added_up, Value, text}
+use Rattle.language.specs.Meaning.{Bind, bound, set_bound, size_of, binds_size}
 use Rattle.language.proofs.Lists.{same_refl, same_is}
 use Rattle.assembly.specs.Assembly.{Entry, named, literal, Pool}
-use Rattle.representation.specs.Values.{entry_worth}
-use Rattle.representation.specs.Room.{constant_size, Apart}
+use Rattle.representation.specs.Room.{Apart}
 
 pub bound_same : (bs : List Bind) (x : List ℕ) (v : Value) → bound (set_bound bs x v) x ≡ v ∷ []
 unfolding bound set_bound

@@ -1,42 +1,40 @@
 -- Each operation that needs no text: it does to memory what it does to the abstract machine's stack and state.
-use Rattle.std.proofs.Common.{◌≡◌, ℕ, zero, suc, ◌+◌, ◌-◌, ◌*◌, ◌^◌, ◌<◌, ◌≤◌, Bool, true, false, not, ltb, ◌≢◌, ◌⊎◌, List, [], ◌∷◌, length, get_or, ℤ, pos, negsuc, sym, refl, ap, ◌∙◌, subst, inl, inr, arith, w64, SFits, to_z}
+use Rattle.std.proofs.Common.{◌≡◌, ℕ, suc, ◌-◌, ◌<◌, ◌≤◌, Bool, true, false, not, ltb, ◌≢◌, List, [], ◌∷◌, length, get_or, ℤ, pos, negsuc, sym, refl, ap, ◌∙◌, subst, arith, w64, SFits, to_z}
 use mir.Facts.{to_z_pos}
 use Rattle.language.specs.Text
 use Rattle.language.specs.Text.{pick, each, same, plus, minus, text, number_of, holds, truth}
 use Rattle.language.specs.Program.{Program}
-use Rattle.language.specs.Meaning.{State, Bind, Got, got, left, Went, went, nexted, stopped, wrong, bound, set_bound, first_or, with_vars, reckon, reckon_one, exit_with}
-use Rattle.semantics.specs.Stack.{Cell, val, Config, at, off, land}
+use Rattle.language.specs.Meaning.{State, got, stopped, wrong, set_bound, first_or, reckon, reckon_one, exit_with}
+use Rattle.semantics.specs.Stack.{Cell, val, at, off, land}
 use Rattle.semantics.specs.Lines.{Stage}
-use Rattle.language.proofs.Lists.{same_refl, same_is}
-use Rattle.assembly.specs.Assembly.{Op, op_load, op_save, op_line_count, op_field_count, op_one, op_two, op_truth, op_fail, op_jump, op_jump_if, op_jump_unless, op_drop, op_leave_line, op_exit, op_end, Entry, named, literal, Pool, pool}
+use Rattle.language.proofs.Lists.{same_is}
+use Rattle.assembly.specs.Assembly.{Op, op_load, op_save, op_line_count, op_field_count, op_one, op_two, op_truth, op_fail, op_jump, op_jump_if, op_jump_unless, op_exit, Entry, named, literal, pool}
 use Rattle.assembly.specs.Machine.{entry_value, entry_set, op_exec}
 use Rattle.store.specs.declared.cells.Value.{Value}
-use Rattle.store.specs.declared.cells.Value.TheVariants.{Unset, Number}
+use Rattle.store.specs.declared.cells.Value.TheVariants.{Number}
 use Rattle.store.specs.Numbers.{number}
-use Rattle.store.specs.Values.{decoded}
-use Rattle.store.specs.Worth.{Plain}
-use Rattle.regions.specs.Parts.{Parts, with_texts}
+use Rattle.regions.specs.Parts.{Parts}
 use Rattle.values.specs.declared.numbers.Arithmetic.{Arithmetic}
 use Rattle.values.specs.declared.compare.Comparison.{Comparison}
 use Rattle.values.specs.Numbers.{operation}
 use Rattle.values.specs.Compare.{operator}
 use Rattle.interp.specs.declared.Turn.{Turn}
-use Rattle.interp.specs.declared.Turn.TheVariants.{On, Done, Refuse}
+use Rattle.interp.specs.declared.Turn.TheVariants.{On, Refuse}
 use Rattle.interp.specs.declared.registers.Registers.{Registers}
-use Rattle.interp.specs.Turns.{Did, says, placed, after, top_of, under_of, worth_in, releasing, pushed, replaced, replaced_two, truth_of}
+use Rattle.interp.specs.Turns.{Did, says, after, top_of, worth_in, replaced, replaced_two, truth_of}
 use Rattle.interp.specs.Slots.{slot_of, loaded, kept_in, line_counted, fields_counted}
-use Rattle.interp.specs.Jumps.{nothing_done, top_holds, judged, negated, jumped, taking, jumped_if, jumped_unless, between, ended, exited}
+use Rattle.interp.specs.Jumps.{nothing_done, judged, negated, jumped, taking, jumped_if, jumped_unless, ended, exited}
 use Rattle.interp.specs.Numbers.{settled, figured, figured_one}
-use Rattle.representation.specs.Values.{entry_worth, Holds}
+use Rattle.representation.specs.Values.{entry_worth}
 use Rattle.representation.specs.Room.{Apart}
 use Rattle.representation.specs.Relation.{Running}
-use Rattle.representation.specs.Outcomes.{Pushes, Performs}
+use Rattle.representation.specs.Outcomes.{Performs}
 use Rattle.representation.proofs.Cells.{plain_at}
 use Rattle.representation.proofs.Names.{bound_same, bound_other}
 use Rattle.representation.proofs.Moves.{in_hand_plain}
-use Rattle.representation.proofs.Stack.{depth_is, top_worth, under_worth, drops, saves, slot_held}
-use Rattle.representation.proofs.Running.{kept_row, re_run, next_pc, pushes_so, replaces_so, replaces_two_so, drops_so, fails_so}
-use Rattle.representation.proofs.Reckoning.{Figured, a_number, an_error, truth_fits, calculates, compares, opposes, negates}
+use Rattle.representation.proofs.Stack.{top_worth, under_worth, drops, saves, slot_held}
+use Rattle.representation.proofs.Running.{kept_row, re_run, next_pc, pushes_so, replaces_so, replaces_two_so, fails_so}
+use Rattle.representation.proofs.Reckoning.{Figured, a_number, an_error, calculates, compares, opposes, negates}
 
 value_worth : (s : State) (e : Entry) → entry_worth s.vars e ≡ entry_value s e
 value_worth s (named x) = refl

@@ -1,10 +1,9 @@
 -- Operators on numbers and comparisons: a number or an error, whatever the state is.
-use Rattle.std.proofs.Common.{◌≡◌, ℕ, zero, suc, ◌<◌, ◌≤◌, Bool, true, false, not, eqb, ltb, leb, ◌≢◌, List, [], ℤ, pos, negsuc, sym, refl, ap, ◌∙◌, subst, inl, inr, arith, w64, SFits, eq-eqb, ne_eqb}
-use Rattle.std.proofs.lemmas.Bool.{cases_eq, and_parts, leb-true, ltb-true}
-use Rattle.language.specs.Text.{pick, limit, Value, plus, minus, text, number_of, Num, too_large, fine, within, sum, opposite, product, quotient, is_zero, holds, truth, less, alike}
-use Rattle.language.specs.Meaning.{State, Got, got, left, wrong, as_got, quotient_got, left_over_got, reckon, reckon_one}
-use Rattle.semantics.specs.Invariants.{Sound, sound_plus, sound_minus, sound_text}
-use Rattle.semantics.proofs.Sound.{Number, a_plus, a_minus, number_sum, number_opposite, number_quotient, number_product, SoundNumber, sound_within}
+use Rattle.std.proofs.Common.{◌≡◌, ℕ, Bool, true, false, not, ltb, ℤ, pos, negsuc, refl, ap, arith, w64, SFits}
+use Rattle.std.proofs.lemmas.Bool.{ltb-true}
+use Rattle.language.specs.Text.{pick, limit, Value, plus, minus, number_of, too_large, fine, within, opposite, product, quotient, is_zero, holds, truth, less, alike}
+use Rattle.language.specs.Meaning.{State, Got, got, left, wrong, as_got, reckon, reckon_one}
+use Rattle.semantics.proofs.Sound.{Number, a_plus, a_minus, number_sum, number_opposite, number_quotient, number_product}
 use Rattle.values.specs.declared.numbers.Arithmetic.{Arithmetic}
 use Rattle.values.specs.declared.numbers.Arithmetic.TheVariants.{Add, Subtract, Multiply, Divide, Remainder}
 use Rattle.values.specs.declared.compare.Comparison.{Comparison}

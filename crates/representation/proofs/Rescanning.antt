@@ -1,15 +1,15 @@
 -- A scan writes only behind what was noted before it: so from the same place it can be made again.
-use Rattle.std.proofs.Common.{◌≡◌, ℕ, zero, suc, ◌+◌, ◌-◌, ◌<◌, ◌≤◌, min, Bool, true, false, eqb, ltb, ◌⊎◌, List, [], ◌∷◌, length, take, set, sym, refl, ap, ◌∙◌, subst, inl, inr, le_refl, arith, length-set}
+use Rattle.std.proofs.Common.{◌≡◌, ℕ, ◌+◌, ◌≤◌, Bool, true, false, eqb, List, [], ◌∷◌, length, take, set, sym, refl, ap, ◌∙◌, subst, inl, inr, le_refl, arith, length-set}
 use lib.Seq.{set_comm}
 use Rattle.std.proofs.lemmas.List.{set_past}
 use Rattle.std.proofs.lemmas.Bool.{cases_lt, cases_eq}
-use Rattle.language.specs.Text.{pick, blank, has}
+use Rattle.language.specs.Text.{pick, blank}
 use Rattle.regions.specs.Parts.{Parts, with_fields}
 use Rattle.regions.specs.Places.{place_word}
 use Rattle.lines.specs.declared.cutting.Cut.{Cut}
-use Rattle.lines.specs.Cutting.{Cuts, cuts_of, cut_of, fresh_cut, from_to, one_more, closed_words, closed_count, closed, pass_blank, pass_other, pass_byte, pass_all}
+use Rattle.lines.specs.Cutting.{Cuts, cuts_of, cut_of, fresh_cut, from_to, closed_words, closed_count, closed, pass_byte, pass_all}
 use Rattle.lines.specs.Laws.{ScannedSo}
-use Rattle.lines.specs.Scanning.{Scanned, scan_on}
+use Rattle.lines.specs.Scanning.{scan_on}
 use Rattle.lines.proofs.Passing.{words_ended, count_ended, words_kept, count_kept, passes_blank, passes_other}
 
 abbrev cap : ℕ

@@ -1,10 +1,10 @@
 -- When there is no room for a text: what the variables and the rest of the stack hold is more than may be held then.
-use Rattle.std.proofs.Common.{◌≡◌, ℕ, zero, suc, ◌+◌, ◌-◌, ◌*◌, ◌/◌, ◌<◌, ◌≤◌, Bool, true, false, leb, List, [], ◌∷◌, ◌++◌, length, get_or, ℤ, sym, refl, ap, ◌∙◌, subst, inl, inr, le_refl, arith}
-use Rattle.std.proofs.lemmas.Bool.{leb-true, leb-false}
+use Rattle.std.proofs.Common.{◌≡◌, ℕ, zero, suc, ◌+◌, ◌*◌, ◌<◌, ◌≤◌, Bool, true, false, leb, List, [], ◌∷◌, ◌++◌, length, get_or, sym, refl, ap, subst, le_refl, arith}
+use Rattle.std.proofs.lemmas.Bool.{leb-true}
 use Rattle.language.specs.Text
 use Rattle.language.specs.Text.{pick, each, added_up, plus, minus, text, as_text}
 use Rattle.language.specs.Meaning.{Bind, bound, first_or, size_of, binds_size}
-use Rattle.semantics.specs.Stack.{Cell, val, held}
+use Rattle.semantics.specs.Stack.{val, held}
 use Rattle.store.specs.declared.cells.Value.{Value}
 use Rattle.store.specs.declared.cells.Value.TheVariants.{Unset, Number, Text as InText, Short as InShort}
 use Rattle.store.specs.Space.{span}
@@ -18,7 +18,6 @@ use Rattle.assembly.specs.Assembly.{Entry, named, literal, Pool}
 use Rattle.representation.specs.Values.{tops, held_all, stacked, slotted, holders, entry_worth, Holds}
 use Rattle.representation.specs.Room.{constant_size, Apart, Slight}
 use Rattle.representation.proofs.Names.{over, over_add, over_list, set_size, name_size, slots_size}
-use Rattle.representation.proofs.Cells.{held_member}
 use Rattle.representation.proofs.Moves.{occ_all, first_of, rest_of}
 
 spans_append : (said : ℕ → List ℕ) (xs ys : List ℕ) → spans said (xs ++ ys) ≡ spans said xs + spans said ys

@@ -1,11 +1,11 @@
 -- From one place of the code to another, with what an operation changed.
-use Rattle.std.proofs.Common.{◌≡◌, ℕ, suc, ◌+◌, ◌-◌, ◌*◌, ◌%◌, ◌<◌, ◌≤◌, Bool, true, false, ltb, ◌⊎◌, List, [], ◌∷◌, length, get_or, sym, refl, ap, ◌∙◌, subst, inl, inr, mod-eq_of_lt, arith}
+use Rattle.std.proofs.Common.{◌≡◌, ℕ, suc, ◌+◌, ◌-◌, ◌≤◌, Bool, true, false, ltb, List, [], ◌∷◌, length, refl, ◌∙◌, inl, inr, mod-eq_of_lt, arith}
 use Rattle.std.proofs.lemmas.Bool.{ltb-true, ltb-false}
 use Rattle.language.specs.Text
 use Rattle.language.specs.Text.{pick, each}
 use Rattle.language.specs.Program.{Program}
-use Rattle.language.specs.Meaning.{State, Bind, weight, wrong}
-use Rattle.semantics.specs.Stack.{Cell, val, held, Config, at, off}
+use Rattle.language.specs.Meaning.{State, Bind, wrong}
+use Rattle.semantics.specs.Stack.{val, at, off}
 use Rattle.semantics.specs.Lines.{Stage}
 use Rattle.assembly.specs.Assembly.{Op, pool}
 use Rattle.store.specs.declared.cells.Value.{Value}
@@ -17,10 +17,10 @@ use Rattle.regions.specs.Parts.{Parts, with_texts}
 use Rattle.lines.specs.declared.line.Line.{Line}
 use Rattle.interp.specs.declared.Turn.TheVariants.{On, Refuse}
 use Rattle.interp.specs.declared.registers.Registers.{Registers}
-use Rattle.interp.specs.Turns.{Did, says, placed, after, holding, stacking, pushed, replaced, replaced_two, dropped}
+use Rattle.interp.specs.Turns.{says, placed, after, holding, stacking, pushed, replaced, replaced_two, dropped}
 use Rattle.representation.specs.Values.{holders, Holds}
-use Rattle.representation.specs.Relation.{Loaded, LineSo, Running, Stands}
-use Rattle.representation.specs.Outcomes.{RowKept, Pushes, Heavy, OpOutcome, Performs}
+use Rattle.representation.specs.Relation.{LineSo, Running}
+use Rattle.representation.specs.Outcomes.{RowKept, Pushes, Performs}
 use Rattle.representation.proofs.Room.{held_many}
 use Rattle.representation.proofs.Stack.{depth_is, drops, replaces, replaces_two, loads}
 

@@ -1,5 +1,5 @@
 -- What the operations do to the stack and to the slots, as moves one after the other.
-use Rattle.std.proofs.Common.{◌≡◌, ℕ, zero, suc, ◌+◌, ◌-◌, ◌*◌, ◌/◌, ◌<◌, ◌≤◌, ◌≢◌, List, [], ◌∷◌, ◌++◌, length, get_or, sym, refl, ap, ◌∙◌, subst, arith}
+use Rattle.std.proofs.Common.{◌≡◌, ℕ, zero, suc, ◌+◌, ◌-◌, ◌<◌, ◌≤◌, ◌≢◌, List, [], ◌∷◌, length, get_or, sym, refl, ap, ◌∙◌, subst, arith}
 use Rattle.language.specs.Text
 use Rattle.language.specs.Text.{each, text}
 use Rattle.language.specs.Meaning.{Bind}
@@ -12,7 +12,7 @@ use Rattle.regions.specs.Parts.{Parts}
 use Rattle.assembly.specs.Assembly.{literal, Pool}
 use Rattle.interp.specs.Turns.{holding, releasing, stacking, worth_in}
 use Rattle.interp.specs.Slots.{slotting}
-use Rattle.representation.specs.Values.{tops, held_all, stacked, slotted, holders, entry_worth, Holds}
+use Rattle.representation.specs.Values.{tops, holders, entry_worth, Holds}
 use Rattle.representation.proofs.Cells.{plain_at, held_member}
 use Rattle.representation.proofs.Moves.{occ_all, first_of, rest_of, pops, pushes, frees, holds_more, stores}
 use Rattle.representation.proofs.Making.{worth_held}

@@ -1,11 +1,11 @@
 -- Which configuration of the abstract machine memory and registers stand for. Places of the code are those of the assembled code, without notes.
 -- Assumes nothing: these are definitions.
-use Rattle.std.specs.Prelude.{◌≡◌, ℕ, ◌<◌, ◌≤◌, Bool, true, false, ◌⊎◌, List, [], ◌∷◌, ◌++◌, length, take, slice_index}
+use Rattle.std.specs.Prelude.{◌≡◌, ℕ, ◌≤◌, Bool, true, false, ◌⊎◌, List, [], ◌++◌, length, take, slice_index}
 use Rattle.language.specs.Text
 use Rattle.language.specs.Text.{each, has}
 use Rattle.language.specs.Program.{Program}
-use Rattle.language.specs.Meaning.{State, Bind, Went, went, nexted, stopped, given, wrong, unfinished}
-use Rattle.semantics.specs.Stack.{Cell, val, Config, at, off}
+use Rattle.language.specs.Meaning.{Bind, Went, went, nexted, stopped, given, wrong, unfinished}
+use Rattle.semantics.specs.Stack.{val, Config, at, off}
 use Rattle.semantics.specs.Code.{program_code}
 use Rattle.semantics.specs.Lines
 use Rattle.semantics.specs.Lines.{first_stage, line_stage, last_stage, Live, live, over}

@@ -1,4 +1,5 @@
 // Memory and registers as a configuration of the abstract machine.
+#![tactic(auto)]
 
 // Nothing yet.
 pub fn stands() {}

@@ -4,7 +4,6 @@ use lib.Seq.{paste}
 use Rattle.std.proofs.lemmas.List.{append-nil, take_at, drop_at, take-take, drop-append-le, length-take-le}
 use Rattle.std.proofs.lemmas.List.Edits.{drop-paste, length-paste}
 use Rattle.std.proofs.lemmas.Bool.{cases_lt, leb-false}
-use Rattle.store.specs.Words.{over}
 use Rattle.rows.specs.Rows.{over_row, fitting, went}
 use Rattle.rows.specs.Laws.{Row, all_new, done_by, Wide, Roomy}
 use Rattle.rows.proofs.Putting.{over_past}

@@ -1,4 +1,6 @@
 // What print writes into the row that is lent; a long print goes on in the next row.
+#![tactic(auto)]
+
 mod copying;
 mod pen;
 

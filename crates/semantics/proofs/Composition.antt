@@ -7,7 +7,7 @@ use Rattle.std.proofs.lemmas.Bool.{and_parts}
 use lib.Seq.{take-append_seam}
 use Rattle.language.specs.Text.{pick, or, flat, every}
 use Rattle.language.specs.Program.{Program}
-use Rattle.language.specs.Meaning.{State, Went, went, given, wrong, unfinished, state_of, outcome, so_far}
+use Rattle.language.specs.Meaning.{State, Went, went, wrong, unfinished, state_of, outcome, so_far}
 use Rattle.language.specs.Run.{Engine, Event, started, bytes, no_more, next, Act, more, write, done, refused, Ran, ran, a_row, first_piece, other_pieces, one_act, came, runs, run_of}
 use Rattle.language.specs.Promise.{Beginning, EndedAs, over as is_over, NoRoom, Right}
 use Rattle.semantics.specs.Stack.{times}

@@ -1,6 +1,6 @@
 -- Patterns of texts: matches as a relation, and that the ends of the specification are the ends of matches. From this follow the laws: how ends go
 -- together, that the first match is the first and the longest there, and that without a match nothing is swapped.
-use Rattle.std.proofs.Common.{◌≡◌, ℕ, zero, suc, ◌+◌, ◌-◌, ◌*◌, ◌<◌, ◌≤◌, Bool, true, false, not, eqb, ltb, ◌⊎◌, List, [], ◌∷◌, ◌++◌, length, take, drop, sym, refl, ap, subst, inl, inr, arith, drop_of_length-le}
+use Rattle.std.proofs.Common.{◌≡◌, ℕ, zero, suc, ◌+◌, ◌*◌, ◌<◌, ◌≤◌, Bool, true, false, not, eqb, ltb, ◌⊎◌, List, [], ◌∷◌, ◌++◌, length, take, drop, sym, refl, ap, subst, inl, inr, arith, drop_of_length-le}
 use Rattle.std.proofs.lemmas.Bool.{eqb-true, eq-eqb, ltb-true, ltb-false, cases_lt, cases_eq}
 use Rattle.language.specs.Text.{pick, or, any, flat, none_of, has, with_all, Span, Pattern, nothing, byte, both, either, some, at_start, at_end, in_spans, byte_at, one_byte, again, ends, greatest, first_match, swap_from, Swapped}
 use borrow.Author.Tests.{clash}

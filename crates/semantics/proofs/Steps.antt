@@ -1,5 +1,5 @@
 -- Steps of any machine: so many or more lead from one configuration to another.
-use Rattle.std.proofs.Common.{◌≡◌, ℕ, zero, suc, ◌+◌, ◌-◌, ◌≤◌, refl, ap, ◌∙◌, suc-add, zero-add, arith}
+use Rattle.std.proofs.Common.{◌≡◌, ℕ, zero, suc, ◌+◌, ◌≤◌, refl, ap, ◌∙◌, suc-add, zero-add, arith}
 use Rattle.semantics.specs.Stack.{times}
 
 module _ {C : Type 0} (next : C → C) where

@@ -1,6 +1,8 @@
 // The meaning as a machine. specs/ has a stack machine, the code that it runs for a program, and what an engine in memory owes; proofs/ shows that
 // the machine does what the language means, and that an engine which keeps what it owes keeps the whole promise. The functions below do nothing when
 // they are called; each one's contract is a theorem, and the crate is accepted only with its proof. specs/Lib.antt leads through the argument.
+#![tactic(auto)]
+
 ghost use Rattle.language.specs.Promise.{EndsRight, FirstLongest, SwapNone, ItemsRight};
 ghost use Rattle.semantics.specs.Example.{SmallExample};
 ghost use Rattle.semantics.specs.Theorems.{Forward, Back, Ended, InPieces, WaitingDone, Room, ProperEnds, FullNotes, NotedCode, ShortCode, SoundRuns, FieldsPlaced, Promised};

@@ -1,9 +1,8 @@
 -- Lists of cells: what is live, how wide they are, where they are laid.
-use Rattle.std.proofs.Common.{◌≡◌, ℕ, zero, suc, ◌+◌, ◌-◌, ◌*◌, ◌/◌, ◌%◌, ◌^◌, ◌<◌, ◌≤◌, min, Bool, true, false, cond, eqb, ltb, leb, ◌≢◌, ◌⊎◌, List, [], ◌∷◌, ◌++◌, length, get_or, take, drop, set, sym, refl, ap, ◌∙◌, subst, inl, inr, append_assoc, not-suc-le-zero, add-zero, add_assoc, zero-add, arith, length-append, le-ltb, lt-ltb, eq-eqb, ne_eqb}
+use Rattle.std.proofs.Common.{◌≡◌, ℕ, ◌+◌, ◌<◌, ◌≤◌, ◌≢◌, List, [], ◌∷◌, ◌++◌, length, get_or, sym, refl, ap, ◌∙◌, subst, inl, inr, append_assoc, add-zero, add_assoc, zero-add, arith, length-append, le-ltb, lt-ltb, eq-eqb, ne_eqb}
 use Rattle.std.proofs.lemmas.Bool.{cases_lt, cases_eq}
-use Rattle.std.proofs.lemmas.List.{get_or-set_same, get_or-set_other}
-use Rattle.store.specs.Space.{Space, span}
-use Rattle.store.specs.Model.{Cell, encoded, laid, live, extent, names, is, occ, Sits, Placed, Linked}
+use Rattle.store.specs.Space.{span}
+use Rattle.store.specs.Model.{Cell, encoded, laid, live, extent, names, is, occ, Placed, Linked}
 
 -- tests
 

@@ -1,5 +1,5 @@
 -- Kinds of values, and cells as lists of them.
-use Rattle.std.proofs.Common.{◌≡◌, ℕ, zero, suc, ◌+◌, ◌-◌, ◌*◌, ◌/◌, ◌%◌, ◌^◌, ◌<◌, ◌≤◌, eqb, leb, ◌⊎◌, List, [], ◌∷◌, length, get_or, set, ℤ, Some, None, sym, refl, ap, ◌∙◌, inl, inr, mod-eq_of_lt, arith, to_z-of_z, w64, SFits, to_z, of_z, eq-eqb, ne_eqb, le-leb}
+use Rattle.std.proofs.Common.{◌≡◌, ℕ, zero, suc, ◌+◌, ◌-◌, ◌*◌, ◌/◌, ◌<◌, ◌≤◌, ◌⊎◌, List, [], ◌∷◌, length, get_or, set, ℤ, Some, sym, refl, ap, ◌∙◌, inl, inr, mod-eq_of_lt, arith, to_z-of_z, w64, SFits, to_z, of_z, eq-eqb, ne_eqb, le-leb}
 use borrow.Author.Tests.{lt-leb}
 use Rattle.store.specs.declared.short.Short.{Short}
 use Rattle.store.specs.declared.cells.Value.{Value}

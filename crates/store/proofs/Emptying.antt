@@ -1,8 +1,8 @@
 -- An empty region: each handle is followed by the next.
-use Rattle.std.proofs.Common.{◌≡◌, ℕ, zero, suc, ◌+◌, ◌-◌, ◌<◌, ◌≤◌, ◌≢◌, ◌⊎◌, List, [], ◌∷◌, ◌++◌, length, get_or, take, drop, set, sym, refl, ap, ◌∙◌, subst, inl, inr, zero-add, arith, length-set, get_or-set_other, get_or-set_same}
-use Rattle.std.proofs.lemmas.Bool.{cases_lt, cases_eq}
+use Rattle.std.proofs.Common.{◌≡◌, ℕ, zero, suc, ◌+◌, ◌-◌, ◌<◌, ◌≤◌, List, [], ◌∷◌, length, get_or, set, sym, refl, ap, ◌∙◌, subst, inl, inr, zero-add, arith, length-set, get_or-set_other, get_or-set_same}
+use Rattle.std.proofs.lemmas.Bool.{cases_eq}
 use Rattle.store.specs.Space.{Space, chained, emptied}
-use Rattle.store.specs.Model.{Cell, names, is, occ, Linked, Laid, Store}
+use Rattle.store.specs.Model.{occ, Linked, Store}
 use Rattle.store.proofs.Basics.{is_same, is_other}
 
 pub length_chained : (k h : ℕ) (t : List ℕ) → length (chained k h t) ≡ length t

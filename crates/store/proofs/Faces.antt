@@ -1,10 +1,10 @@
 -- Regions of texts as the layers above see them.
-use Rattle.std.proofs.Common.{◌≡◌, ℕ, zero, suc, ◌+◌, ◌-◌, ◌*◌, ◌/◌, ◌%◌, ◌<◌, ◌≤◌, ◌≢◌, ◌⊎◌, List, [], ◌∷◌, ◌++◌, length, get_or, set, sym, refl, ap, ◌∙◌, subst, inl, inr, arith, length-take-le, le-ltb, lt-ltb, eq-eqb, ne_eqb}
+use Rattle.std.proofs.Common.{◌≡◌, ℕ, ◌+◌, ◌*◌, ◌<◌, ◌≤◌, ◌≢◌, ◌⊎◌, List, [], ◌∷◌, ◌++◌, length, get_or, sym, refl, ap, ◌∙◌, subst, inl, inr, arith, length-take-le, le-ltb, lt-ltb, eq-eqb, ne_eqb}
 use Rattle.std.proofs.lemmas.Bool.{cases_lt, cases_eq}
 use Rattle.store.specs.Words.{unpacked, over}
 use Rattle.store.specs.Space.{Space, span, allocated, compacted, raised, lowered, length_of, text_of, written, copied, emptied}
-use Rattle.store.specs.Model.{Cell, names, is, occ, Store, on, more, fewer, without, look, let_go, bytes, Held, held_bytes}
-use Rattle.store.specs.Laws.{Got, Full, Became, Texts, changed, spent, Fresh, NoRoom, spans, Crowded, Interface}
+use Rattle.store.specs.Model.{Cell, occ, on, more, fewer, look, let_go, bytes, held_bytes}
+use Rattle.store.specs.Laws.{Got, Texts, changed, spent, Fresh, NoRoom, spans, Crowded, Interface}
 use Rattle.store.proofs.Packing.{length_unpacked}
 use Rattle.store.proofs.Moving.{window_below}
 use Rattle.store.proofs.Basics.{is_same, is_other, occ_le}

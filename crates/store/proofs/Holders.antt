@@ -1,12 +1,12 @@
 -- Texts by their handles: counts are holders, and there is room as long as what is counted for them is small enough.
-use Rattle.std.proofs.Common.{◌≡◌, ℕ, zero, suc, ◌+◌, ◌-◌, ◌*◌, ◌/◌, ◌%◌, ◌^◌, ◌<◌, ◌≤◌, min, Bool, true, false, cond, eqb, ltb, leb, ◌≢◌, ◌⊎◌, List, [], ◌∷◌, ◌++◌, length, get_or, take, drop, set, sym, refl, ap, ◌∙◌, subst, inl, inr, append_assoc, not-suc-le-zero, add-zero, add_assoc, mod-eq_of_lt, zero-add, arith, length-append, length-set, le-ltb, lt-ltb, eq-eqb, ne_eqb}
+use Rattle.std.proofs.Common.{◌≡◌, ℕ, suc, ◌+◌, ◌*◌, ◌/◌, ◌<◌, ◌≤◌, cond, eqb, ◌≢◌, List, [], ◌∷◌, ◌++◌, length, get_or, sym, refl, ap, ◌∙◌, subst, inl, inr, arith, length-set, le-ltb, lt-ltb, eq-eqb, ne_eqb}
 use Rattle.std.proofs.lemmas.Bool.{cases_lt, cases_eq}
-use Rattle.store.specs.Space.{Space, span, place, put_word, raised, lowered, freed, length_of, allocated}
-use Rattle.store.specs.Model.{Cell, encoded, laid, live, extent, names, is, occ, Sits, Placed, Linked, Laid, Store, on, without, counted_as, more, fewer, nobody's, look, let_go, with_word, Held, held_bytes}
+use Rattle.store.specs.Space.{Space, span, place, put_word, raised, lowered, length_of, allocated}
+use Rattle.store.specs.Model.{Cell, live, extent, names, occ, Placed, Laid, Store, on, without, more, fewer, look, let_go, with_word, Held, held_bytes}
 use Rattle.store.proofs.Basics.{is_same, is_other, occ_le, names_live, live_in, live_out}
-use Rattle.store.specs.Laws.{Got, Full}
+use Rattle.store.specs.Laws.{Got}
 use Rattle.store.proofs.Taking.{allocated_is}
-use Rattle.store.proofs.Holding.{Split, split, read, rewritten, looked, live_on, raised_cell, lowered_cell, released_cell}
+use Rattle.store.proofs.Holding.{split, read, rewritten, looked, live_on, raised_cell, lowered_cell, released_cell}
 
 -- a text with a holder is there
 

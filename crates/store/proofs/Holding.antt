@@ -1,11 +1,11 @@
 -- One block among the others: its words read and written, its holders counted, the block given back.
-use Rattle.std.proofs.Common.{◌≡◌, ℕ, zero, suc, ◌+◌, ◌-◌, ◌*◌, ◌/◌, ◌%◌, ◌^◌, ◌<◌, ◌≤◌, min, Bool, true, false, cond, eqb, ltb, leb, ◌≢◌, ◌⊎◌, List, [], ◌∷◌, ◌++◌, length, get_or, take, drop, set, sym, refl, ap, ◌∙◌, subst, inl, inr, append_assoc, not-suc-le-zero, add-zero, add_assoc, mod-eq_of_lt, zero-add, arith, length-append, length-set, length-take-le, get_or-set_other, get_or-take, get_or-set_same, le-ltb, lt-ltb, eq-eqb, ne_eqb}
+use Rattle.std.proofs.Common.{◌≡◌, ℕ, ◌+◌, ◌-◌, ◌/◌, ◌%◌, ◌<◌, ◌≤◌, ◌≢◌, List, [], ◌∷◌, ◌++◌, length, get_or, take, set, sym, refl, ap, ◌∙◌, subst, inl, inr, add-zero, mod-eq_of_lt, zero-add, arith, length-append, length-set, get_or-set_other, get_or-take, get_or-set_same, le-ltb, lt-ltb, eq-eqb, ne_eqb}
 use lib.Seq.{take-set-lt, set-append_left}
-use Rattle.std.proofs.lemmas.Bool.{cases_lt, cases_eq}
-use Rattle.std.proofs.lemmas.List.{append-nil, get_or_append_left, get_or-append_right, set-append_right}
-use Rattle.store.specs.Space.{Space, span, place, put_word, raised, lowered, freed, length_of}
-use Rattle.store.specs.Model.{Cell, encoded, laid, live, extent, names, is, occ, Sits, Placed, Linked, Laid, Store, on, without, counted_as, more, fewer, nobody's, look}
-use Rattle.store.proofs.Basics.{is_same, is_other, occ_names, laid_append, extent_append, length_laid, live_append, live_in, live_out, live_live, names_live, placed_same, linked_same, placed_append, placed_left, placed_right}
+use Rattle.std.proofs.lemmas.Bool.{cases_eq}
+use Rattle.std.proofs.lemmas.List.{get_or_append_left, get_or-append_right, set-append_right}
+use Rattle.store.specs.Space.{Space, span, place, put_word, raised, lowered, freed}
+use Rattle.store.specs.Model.{Cell, encoded, laid, live, extent, names, is, occ, Placed, Linked, Laid, Store, on, without, more, fewer, nobody's, look}
+use Rattle.store.proofs.Basics.{is_same, is_other, occ_names, laid_append, extent_append, length_laid, live_append, live_in, live_out, names_live, placed_same, linked_same, placed_append, placed_left, placed_right}
 use Rattle.store.proofs.Sliding.{top_is}
 
 -- where the cell of h stands among the blocks

@@ -1,17 +1,17 @@
 -- Values over a region of texts.
-use Rattle.std.proofs.Common.{◌≡◌, ℕ, zero, suc, ◌+◌, ◌*◌, ◌<◌, ◌≤◌, ◌≢◌, ◌⊎◌, List, [], ◌∷◌, ◌++◌, length, get_or, Some, None, sym, refl, ap, ◌∙◌, subst, inl, inr, arith, eq-eqb, ne_eqb}
-use Rattle.std.proofs.lemmas.Bool.{cases_lt, cases_eq}
+use Rattle.std.proofs.Common.{◌≡◌, ℕ, ◌+◌, ◌*◌, ◌<◌, ◌≤◌, ◌≢◌, ◌⊎◌, List, [], ◌∷◌, ◌++◌, length, get_or, sym, refl, ap, ◌∙◌, subst, inl, inr, arith}
+use Rattle.std.proofs.lemmas.Bool.{cases_lt}
 use Rattle.language.specs.Text.{text}
 use Rattle.store.specs.declared.cells.Value.{Value}
 use Rattle.store.specs.declared.cells.Value.TheVariants.{Unset, Number, Text, Short as InShort}
 use Rattle.store.specs.Words.{over}
 use Rattle.store.specs.Short.{short_of}
 use Rattle.store.specs.Space.{Space, Given, handle_of, allocated, written}
-use Rattle.store.specs.Model.{is, occ}
-use Rattle.store.specs.Laws.{Texts, changed, spent, Fresh, NoRoom, Crowded, Interface}
+use Rattle.store.specs.Model.{occ}
+use Rattle.store.specs.Laws.{Texts, changed, Fresh, NoRoom, Crowded}
 use Rattle.store.specs.Values.{decode, kind_of, payload_of, worth, held_by, kept, let_go, Made, made, filled}
 use Rattle.store.specs.Worth.{meant, Plain, HeldIn, New, NoneNew, NoWords, ValueLaws}
-use Rattle.store.proofs.Basics.{is_same, is_other}
+use Rattle.store.proofs.Basics.{is_same}
 use Rattle.store.proofs.Reading.{over_whole}
 use Rattle.store.proofs.Shorts.{short_bytes}
 use Rattle.store.proofs.Coding.{decode_none, decode_text, number_back, short_back, made_short, made_long}

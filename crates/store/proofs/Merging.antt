@@ -1,9 +1,9 @@
 -- Two words, and the eight bytes that begin in the one and end in the other.
-use Rattle.std.proofs.Common.{◌≡◌, ℕ, zero, suc, ◌+◌, ◌-◌, ◌*◌, ◌/◌, ◌%◌, ◌^◌, ◌<◌, ◌≤◌, List, [], ◌∷◌, ◌++◌, length, get_or, take, drop, set, sym, refl, ap, ◌∙◌, subst, not-suc-le-zero, add-zero, mul_assoc, mul_comm, add_comm, suc-add, pow-suc, zero-add, div-one, arith}
+use Rattle.std.proofs.Common.{◌≡◌, ℕ, zero, suc, ◌+◌, ◌-◌, ◌*◌, ◌/◌, ◌%◌, ◌^◌, ◌<◌, ◌≤◌, ◌∷◌, ◌++◌, take, drop, sym, refl, ap, ◌∙◌, subst, add-zero, mul_assoc, mul_comm, add_comm, suc-add, pow-suc, zero-add, div-one, arith}
 use native.Mathlib.Nat.{div-div-eq-div-mul, mul-mod_left}
 use lib.Arith.{mod-mul}
 use lib.Bits.{bit_or}
-use Rattle.std.proofs.lemmas.Nat.{pow-add, or_shifted, or_comm, pow_pos, shr_below, mod_below, shl-shr}
+use Rattle.std.proofs.lemmas.Nat.{pow-add, or_shifted, or_comm, pow_pos, shr_below, shl-shr}
 use Rattle.store.specs.Words.{bytes_of}
 use Rattle.store.specs.Short.{pow_above}
 

@@ -1,9 +1,9 @@
 -- Bytes that are moved within words: what is read was not yet written.
-use Rattle.std.proofs.Common.{◌≡◌, ℕ, zero, suc, ◌+◌, ◌-◌, ◌*◌, ◌/◌, ◌%◌, ◌^◌, ◌<◌, ◌≤◌, min, ◌≢◌, ◌⊎◌, List, [], ◌∷◌, ◌++◌, length, get_or, take, drop, set, sym, refl, ap, ◌∙◌, inl, inr, arith, length-drop, length-take, get_or-drop, get_or-set_other, get_or-take, drop-drop, take_at, ext_get_or, take-add, drop_at}
+use Rattle.std.proofs.Common.{◌≡◌, ℕ, zero, suc, ◌+◌, ◌-◌, ◌*◌, ◌<◌, ◌≤◌, min, ◌≢◌, ◌⊎◌, List, [], ◌∷◌, ◌++◌, length, get_or, take, drop, set, sym, refl, ap, ◌∙◌, inl, inr, arith, length-drop, length-take, get_or-drop, get_or-set_other, get_or-take, drop-drop, take_at, ext_get_or, take-add, drop_at}
 use lib.Seq.{paste, take-paste, set_comm, drop-append-le}
 use Rattle.std.proofs.lemmas.List.{drop_more, drop-take, take-take, take_all, get_or_past, length-take-le}
 use Rattle.std.proofs.lemmas.Bool.{cases_lt}
-use Rattle.store.specs.Words.{bytes_of, unpacked, with_byte, put_byte, put_bytes, window}
+use Rattle.store.specs.Words.{bytes_of, unpacked, put_byte, put_bytes, window}
 use Rattle.store.proofs.Packing.{length_bytes, length_unpacked, unpacked_below, window_cut}
 use Rattle.store.proofs.Putting.{Words, words_same, length_put, length_puts, put_set, put_fits, two_put, three_parts, words_placed, puts_all, puts_over}
 

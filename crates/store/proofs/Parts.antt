@@ -1,7 +1,7 @@
 -- The region of texts by its parts: what a read or a write of a word of it is.
-use Rattle.std.proofs.Common.{◌≡◌, ℕ, zero, suc, ◌+◌, ◌-◌, ◌<◌, ◌≤◌, ◌≢◌, List, [], ◌∷◌, ◌++◌, length, get_or, take, drop, set, sym, refl, ap, ◌∙◌, subst, add_assoc, arith, length-drop, take-append-drop, get_or-drop, get_or-set_other, get_or-take, get_or-set_same, drop-set-lt, take-add, drop_at}
+use Rattle.std.proofs.Common.{◌≡◌, ℕ, ◌+◌, ◌-◌, ◌<◌, ◌≤◌, List, ◌++◌, length, get_or, take, drop, set, sym, refl, ap, ◌∙◌, add_assoc, arith, length-drop, take-append-drop, get_or-drop, get_or-set_other, get_or-take, get_or-set_same, drop-set-lt, take-add, drop_at}
 use lib.Seq.{paste, take-set-le, take-set-lt, drop-set-add}
-use Rattle.std.proofs.lemmas.List.{get_or_past, set_past, length-take-le, take-take, take-append-le, drop-append-le, get_or_append_left, append_assoc, append-nil, drop-drop, drop-take, take_all, drop_all}
+use Rattle.std.proofs.lemmas.List.{get_or_past, set_past, length-take-le, take-take, take-append-le, drop-append-le, append_assoc, append-nil, drop-drop, drop-take, take_all, drop_all}
 use Rattle.std.proofs.lemmas.Slice.{take-put_mid, take-put_mid_below, drop-put_mid}
 use borrow.Rule.Slice.PartMut.{put_mid}
 use Rattle.store.specs.Space.{Space, space, with_top, with_free, with_heap, put_word, put_entry}

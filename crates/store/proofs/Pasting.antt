@@ -1,5 +1,5 @@
 -- Bytes that are copied into a row, one after the other.
-use Rattle.std.proofs.Common.{◌≡◌, ℕ, suc, ◌+◌, ◌*◌, ◌/◌, ◌%◌, ◌≤◌, List, [], ◌∷◌, ◌++◌, length, get_or, take, drop, set, sym, refl, ap, ◌∙◌, arith, length-drop, take-add}
+use Rattle.std.proofs.Common.{◌≡◌, ℕ, suc, ◌+◌, ◌/◌, ◌%◌, ◌≤◌, List, [], ◌∷◌, length, take, drop, set, sym, ap, ◌∙◌, arith, length-drop, take-add}
 use native.Mathlib.Nat.{div-div-eq-div-mul}
 use lib.Seq.{paste, sets-eq}
 use Rattle.std.proofs.lemmas.List.Edits.{paste-paste}

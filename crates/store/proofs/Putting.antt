@@ -1,5 +1,5 @@
 -- Bytes that are put into words, one after the other.
-use Rattle.std.proofs.Common.{◌≡◌, ℕ, zero, suc, ◌+◌, ◌-◌, ◌*◌, ◌/◌, ◌%◌, ◌^◌, ◌<◌, ◌≤◌, min, List, [], ◌∷◌, ◌++◌, length, get_or, take, drop, set, sym, refl, ap, ◌∙◌, inl, inr, add-zero, pow-suc, arith, length-drop, length-set, take-append-drop, get_or-set_other, get_or-set_same, take_at, drop-set-lt, take-add, drop_at}
+use Rattle.std.proofs.Common.{◌≡◌, ℕ, zero, suc, ◌+◌, ◌-◌, ◌*◌, ◌/◌, ◌%◌, ◌^◌, ◌<◌, ◌≤◌, min, List, [], ◌∷◌, ◌++◌, length, get_or, take, drop, set, sym, refl, ap, ◌∙◌, inl, inr, add-zero, pow-suc, arith, length-set, take-append-drop, get_or-set_other, get_or-set_same, take_at, drop-set-lt, take-add, drop_at}
 use lib.Seq.{paste}
 use Rattle.std.proofs.lemmas.List.{set_past, take_more, drop_more, length-take-le, append_assoc, take_all, take_more_set}
 use Rattle.std.proofs.lemmas.List.Edits.{paste_none}

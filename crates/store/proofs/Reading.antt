@@ -1,18 +1,18 @@
 -- The bytes of a text, read and written where its block lies.
-use Rattle.std.proofs.Common.{◌≡◌, ℕ, zero, suc, ◌+◌, ◌-◌, ◌*◌, ◌/◌, ◌%◌, ◌<◌, ◌≤◌, min, ◌≢◌, ◌⊎◌, List, [], ◌∷◌, ◌++◌, length, get_or, take, drop, set, sym, refl, ap, ◌∙◌, subst, inl, inr, add_assoc, zero-add, arith, length-append, length-drop, length-set, length-take, length-take-le, get_or-drop, get_or-take, drop-drop, ext_get_or, take-add}
+use Rattle.std.proofs.Common.{◌≡◌, ℕ, ◌+◌, ◌-◌, ◌*◌, ◌/◌, ◌%◌, ◌<◌, ◌≤◌, min, ◌≢◌, List, [], ◌∷◌, ◌++◌, length, get_or, take, drop, set, sym, refl, ap, ◌∙◌, subst, inl, inr, add_assoc, zero-add, arith, length-append, length-drop, length-set, length-take-le, get_or-drop, get_or-take, ext_get_or}
 use lib.Seq.{paste, take-set-lt}
-use Rattle.std.proofs.lemmas.List.{append_assoc, take-take, take_all, drop_all, append-nil}
+use Rattle.std.proofs.lemmas.List.{drop_all, append-nil}
 use Rattle.std.proofs.lemmas.List.Edits.{paste_all, paste-paste}
-use Rattle.std.proofs.lemmas.Bool.{cases_lt, cases_eq}
-use Rattle.store.specs.Words.{bytes_of, unpacked, with_byte, put_byte, put_bytes, window, over}
+use Rattle.std.proofs.lemmas.Bool.{cases_eq}
+use Rattle.store.specs.Words.{unpacked, with_byte, put_byte, put_bytes, over}
 use Rattle.store.specs.Space.{Space, place, with_heap, put_word, bytes_at, length_of, text_of, written}
-use Rattle.store.specs.Model.{Cell, Store, on, look, names, occ, with_word, bytes, Held}
+use Rattle.store.specs.Model.{Cell, Store, on, look, occ, with_word, bytes, Held}
 use Rattle.store.specs.Laws.{Became, Filled}
-use Rattle.store.proofs.Packing.{length_bytes, length_unpacked, byte_is}
+use Rattle.store.proofs.Packing.{length_unpacked, byte_is}
 use Rattle.store.proofs.Putting.{puts_over, over_set, over_nothing}
 use Rattle.store.proofs.Basics.{placed_right}
 use Rattle.store.proofs.Holding.{spot, room}
-use Rattle.store.proofs.Holders.{At, at_cell, length_is, word_is, word_set, look_on, look_on_other, counted_there}
+use Rattle.store.proofs.Holders.{at_cell, length_is, word_is, word_set, look_on, look_on_other, counted_there}
 
 -- a text has the words that its length says
 pub words_wide : (T W : ℕ) (s : Space) (H : List Cell) (h : ℕ) → Store T W s H → 1 ≤ (look h H).count → length (look h H).words ≡ (look h H).size / 8 + 1

@@ -1,11 +1,11 @@
 -- Compacting: the live blocks are laid one after the other, and the table says where.
-use Rattle.std.proofs.Common.{◌≡◌, ℕ, zero, suc, ◌+◌, ◌-◌, ◌*◌, ◌/◌, ◌%◌, ◌^◌, ◌<◌, ◌≤◌, min, Bool, true, false, cond, eqb, ltb, leb, ◌≢◌, ◌⊎◌, List, [], ◌∷◌, ◌++◌, length, get_or, take, drop, set, sym, refl, ap, ◌∙◌, subst, inl, inr, append_assoc, not-suc-le-zero, add-zero, add_assoc, zero-add, arith, length-append, length-drop, length-set, take-append-drop, length-take-le, get_or-drop, get_or-set_other, get_or-set_same, drop-drop, take_at, drop_at, le-ltb, lt-ltb, eq-eqb, ne_eqb}
-use lib.Seq.{paste, take-paste, drop-paste, length-paste}
-use Rattle.std.proofs.lemmas.Bool.{cases_lt, cases_eq}
+use Rattle.std.proofs.Common.{◌≡◌, ℕ, zero, suc, ◌+◌, ◌-◌, ◌/◌, ◌<◌, ◌≤◌, min, ◌≢◌, List, [], ◌∷◌, ◌++◌, length, get_or, take, drop, set, sym, refl, ap, ◌∙◌, subst, inl, inr, append_assoc, not-suc-le-zero, add-zero, add_assoc, arith, length-drop, length-set, take-append-drop, length-take-le, get_or-drop, get_or-set_other, get_or-set_same, drop-drop, take_at, drop_at, le-ltb, lt-ltb}
+use lib.Seq.{take-paste, drop-paste, length-paste}
+use Rattle.std.proofs.lemmas.Bool.{cases_lt}
 use Rattle.std.proofs.lemmas.List.{append-nil}
 use Rattle.store.specs.Space.{Space, with_top, span, moved, step_of, slid, compacted}
-use Rattle.store.specs.Model.{Cell, encoded, laid, live, extent, names, is, occ, Sits, Placed, Linked, Laid, Store}
-use Rattle.store.proofs.Basics.{is_same, is_other, laid_append, extent_append, live_in, live_out, live_live, names_live, extent_live, length_le_extent, length_laid, placed_same, linked_same}
+use Rattle.store.specs.Model.{Cell, encoded, laid, live, extent, names, occ, Placed, Linked, Laid, Store}
+use Rattle.store.proofs.Basics.{is_same, laid_append, live_in, live_out, live_live, names_live, extent_live, length_le_extent, length_laid, linked_same}
 
 -- the table after cells were laid from o on
 abbrev pub retabled : List ℕ → ℕ → List Cell → List ℕ

@@ -1,13 +1,13 @@
 -- A new block at the top; when there is none.
-use Rattle.std.proofs.Common.{◌≡◌, ℕ, zero, suc, ◌+◌, ◌-◌, ◌*◌, ◌/◌, ◌%◌, ◌^◌, ◌<◌, ◌≤◌, min, Bool, true, false, cond, eqb, ltb, leb, ◌≢◌, ◌⊎◌, List, [], ◌∷◌, ◌++◌, length, get_or, take, drop, set, Some, None, Option, sym, refl, ap, ◌∙◌, subst, inl, inr, append_assoc, not-suc-le-zero, add-zero, add_assoc, zero-add, arith, length-append, length-drop, length-set, length-take, length-take-le, get_or-set_other, get_or-set_same, take-add, le-ltb, lt-ltb, le-leb}
+use Rattle.std.proofs.Common.{◌≡◌, ℕ, suc, ◌+◌, ◌-◌, ◌/◌, ◌<◌, ◌≤◌, ◌≢◌, ◌⊎◌, List, [], ◌∷◌, ◌++◌, length, get_or, take, drop, set, Some, None, sym, refl, ap, ◌∙◌, subst, inl, inr, add-zero, zero-add, arith, length-append, length-drop, length-set, length-take-le, get_or-set_other, get_or-set_same, take-add, le-ltb, lt-ltb, le-leb}
 use lib.Seq.{take-set-le, drop-set-add}
 use borrow.Author.Tests.{lt-leb}
-use Rattle.std.proofs.lemmas.Bool.{cases_lt, cases_eq}
+use Rattle.std.proofs.lemmas.Bool.{cases_lt}
 use Rattle.std.proofs.lemmas.List.{append-nil}
 use Rattle.store.specs.Space.{Space, Given, handle_of, span, compacted, taken, tried, allocated}
-use Rattle.store.specs.Model.{Cell, encoded, laid, live, extent, names, is, occ, Sits, Placed, Linked, Laid, Store}
+use Rattle.store.specs.Model.{Cell, encoded, laid, live, extent, names, is, occ, Linked, Laid, Store}
 use Rattle.store.specs.Laws.{Got, Full}
-use Rattle.store.proofs.Basics.{is_same, is_other, occ_names, laid_append, live_append, live_in, live_live, names_live, placed_same, linked_same, placed_append}
+use Rattle.store.proofs.Basics.{is_same, occ_names, laid_append, live_append, live_in, live_live, names_live, placed_same, linked_same, placed_append}
 use Rattle.store.proofs.Sliding.{compacted_laid, top_is}
 
 headed : (l : List ℕ) (m a b c : ℕ) → 3 ≤ length l → take (m + 4) (set (set (set l 0 a) 1 b) 2 c) ≡ a ∷ b ∷ c ∷ take (m + 1) (drop 3 l)

@@ -1,5 +1,5 @@
 -- Short texts from words and from bytes. Assumes nothing: these are definitions.
-use Rattle.std.specs.Prelude.{◌≡◌, ℕ, zero, suc, ◌+◌, ◌*◌, ◌%◌, ◌^◌, ◌<◌, ◌≤◌, min, List, [], ◌∷◌, length, take, slice_index}
+use Rattle.std.specs.Prelude.{◌≡◌, ℕ, zero, suc, ◌+◌, ◌*◌, ◌%◌, ◌^◌, ◌<◌, min, List, [], ◌∷◌, length, take, slice_index}
 use Rattle.std.proofs.Common.{mod-lt, pow-suc, arith}
 use Rattle.store.specs.declared.short.Short.{Short}
 

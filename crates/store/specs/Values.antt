@@ -1,17 +1,16 @@
 -- Values, and how cells hold them. Assumes nothing: these are definitions.
-use Rattle.std.specs.Prelude.{◌≡◌, ℕ, zero, suc, ◌+◌, ◌-◌, ◌*◌, ◌%◌, ◌^◌, ◌<◌, ◌≤◌, min, List, [], ◌∷◌, length, ℤ, Some, None, Option, ◌==◌, nat_le, slice_set}
-use Rattle.std.proofs.Common.{arith, to_z, of_z}
+use Rattle.std.specs.Prelude.{ℕ, ◌+◌, ◌-◌, ◌*◌, List, [], ◌∷◌, length, Some, None, Option, ◌==◌, nat_le, slice_set}
+use Rattle.std.proofs.Common.{to_z, of_z}
 use Rattle.std.specs.Int.{w64}
 use Rattle.language.specs.Text
 use Rattle.language.specs.Text.{pick, text}
 use Rattle.store.specs.declared.texts.Handle.{Handle}
-use Rattle.store.specs.declared.short.Short.{Short}
 use Rattle.store.specs.declared.cells.Value.{Value}
 use Rattle.store.specs.declared.cells.Value.TheVariants.{Unset, Number, Text, Short as InShort}
 use Rattle.store.specs.Words.{bytes_of}
 use Rattle.store.specs.Numbers.{number}
 use Rattle.store.specs.Short.{low_short, short_of}
-use Rattle.store.specs.Space.{Space, Given, handle_of, raised, lowered, allocated, text_of, written}
+use Rattle.store.specs.Space.{Space, handle_of, raised, lowered, allocated, text_of, written}
 
 -- what a kind and what stands with it say: 0 unset, 1 a number, 2 a text, 3 to 11 a short text of 0 to 8 bytes
 unfoldable pub decode : ℕ → ℕ → Value

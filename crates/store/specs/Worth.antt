@@ -1,6 +1,6 @@
 -- What values stand for, and what keeping, letting go and making them does to a region of texts. Assumes nothing: these are definitions; the laws
 -- are proved.
-use Rattle.std.specs.Prelude.{◌≡◌, ℕ, ◌+◌, ◌*◌, ◌<◌, ◌≤◌, ◌⊎◌, List, [], ◌∷◌, ◌++◌, length, Some, None, FitsSigned, slice_index}
+use Rattle.std.specs.Prelude.{◌≡◌, ℕ, ◌+◌, ◌*◌, ◌<◌, ◌≤◌, ◌⊎◌, List, [], ◌++◌, length, Some, None, FitsSigned, slice_index}
 use Rattle.std.specs.Int.{w64}
 use Rattle.language.specs.Text
 use Rattle.language.specs.Text.{text}

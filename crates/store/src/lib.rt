@@ -1,4 +1,6 @@
 // Texts, however they are kept.
+#![tactic(auto)]
+
 pub mod bytes;
 pub mod cells;
 pub mod copying;

@@ -1,13 +1,13 @@
 -- The operations that print nothing and set no field, each by its number.
-use Rattle.std.proofs.Common.{◌≡◌, ℕ, zero, suc, ◌<◌, ◌≤◌, Bool, true, false, not, ◌&&◌, eqb, leb, ◌≢◌, ◌⊎◌, List, [], ◌∷◌, length, get_or, sym, refl, ap, ◌∙◌, subst, inl, inr, arith, eq-eqb, ne_eqb}
+use Rattle.std.proofs.Common.{◌≡◌, ℕ, zero, suc, ◌<◌, ◌≤◌, Bool, true, not, ◌&&◌, eqb, leb, ◌≢◌, List, [], ◌∷◌, length, sym, refl, ap, ◌∙◌, subst, inl, inr, arith}
 use Rattle.std.proofs.lemmas.Bool.{cases_eq, and_parts, leb-true, true≢false}
 use Rattle.language.specs.Text
 use Rattle.language.specs.Text.{pick, each, as_text}
 use Rattle.language.specs.Program.{Program}
-use Rattle.language.specs.Meaning.{State, nth_part}
+use Rattle.language.specs.Meaning.{State}
 use Rattle.semantics.specs.Stack.{val}
 use Rattle.semantics.specs.Lines.{Stage}
-use Rattle.semantics.specs.Invariants.{All, all_none, all_more, Sound, SoundText, SoundState}
+use Rattle.semantics.specs.Invariants.{All, all_more, Sound, SoundState}
 use Rattle.semantics.proofs.Sound.{sound_as_text, nth_sound}
 use Rattle.assembly.specs.Assembly.{Op, op_load, op_save, op_line_count, op_field_count, op_get_field, op_set_field, op_one, op_two, op_truth, op_fail, op_jump, op_jump_if, op_jump_unless, op_drop, op_print_line, op_print_values, op_leave_line, op_exit, op_end, pool}
 use Rattle.assembly.specs.Machine.{op_exec}
@@ -22,8 +22,7 @@ use Rattle.values.specs.Compare.{operator}
 use Rattle.interp.specs.declared.ops.Op.TheVariants.{Compare, Calculate, Join, Not, Opposite}
 use Rattle.interp.specs.declared.registers.Registers.{Registers}
 use Rattle.interp.specs.Ops.{one_of, two_of, op_in}
-use Rattle.representation.specs.Relation.{Running, Stands}
-use Rattle.representation.specs.Outcomes.{Performs, RowKept}
+use Rattle.representation.specs.Outcomes.{Performs}
 use Rattle.representation.proofs.Running.{drops_so}
 use Rattle.representation.proofs.Operations.{load_does, count_lines_does, count_fields_does, save_does, truth_does, not_does, calculate_does, compare_does, opposite_does, jump_does, jump_if_does, jump_unless_does, fail_does, exit_does}
 use Rattle.representation.proofs.Fields.{field_text, field_does}

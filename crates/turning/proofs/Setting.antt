@@ -1,15 +1,14 @@
 -- A field is set: the line lies in another buffer then, with its fields; what waits, and all values, stay.
-use Rattle.std.proofs.Common.{◌≡◌, ℕ, zero, suc, ◌+◌, ◌-◌, ◌*◌, ◌<◌, ◌≤◌, min, Bool, true, false, eqb, ltb, leb, ◌⊎◌, List, [], ◌∷◌, ◌++◌, length, get_or, take, drop, set, Some, None, Option, sym, refl, ap, ◌∙◌, subst, inl, inr, arith, length-set, eq-eqb, ne_eqb}
+use Rattle.std.proofs.Common.{◌≡◌, ℕ, zero, suc, ◌+◌, ◌-◌, ◌*◌, ◌<◌, ◌≤◌, Bool, true, false, eqb, ltb, leb, List, [], ◌∷◌, length, get_or, set, sym, refl, ap, ◌∙◌, subst, inl, inr, arith, length-set, ne_eqb}
 use Rattle.std.proofs.lemmas.Bool.{ltb-true, ltb-false, leb-true, cases_lt}
 use Rattle.language.specs.Text
 use Rattle.language.specs.Text.{pick, each, added_up, text, as_text, number_of, fields_from, joined, plus, minus}
 use Rattle.language.specs.Program.{Program}
-use Rattle.language.specs.Meaning.{State, Bind, got, left, wrong, weight, short, set_part, field_number, store_field, with_line}
-use Rattle.semantics.specs.Stack.{val, held, at, off, land}
+use Rattle.language.specs.Meaning.{State, got, left, wrong, weight, short, set_part, field_number, store_field, with_line}
+use Rattle.semantics.specs.Stack.{val, at, land}
 use Rattle.semantics.specs.Lines.{Stage}
-use Rattle.assembly.specs.Assembly.{Op, op_set_field, Pool, pool}
+use Rattle.assembly.specs.Assembly.{op_set_field, pool}
 use Rattle.assembly.specs.Machine.{op_exec}
-use Rattle.store.specs.declared.cells.Value.{Value}
 use Rattle.store.specs.Words.{window, put_byte, put_bytes}
 use Rattle.store.specs.Bytewise.{Bytely}
 use Rattle.store.proofs.Putting.{length_puts}
@@ -19,21 +18,19 @@ use Rattle.regions.specs.Places.{place_word, place_of}
 use Rattle.lines.specs.declared.line.Line.{Line}
 use Rattle.lines.specs.Building.{buffer_of, laid_one, laid, all_pieces, total, after_built, built, filled, filled_if, after_set, with_text, after_line, line_of}
 use Rattle.lines.specs.Cutting.{recut_of}
-use Rattle.lines.specs.Fields.{Sound, LineHolds}
-use Rattle.lines.specs.Laws.{InPlace, BuiltSo, RefusedSo, BuildSays}
+use Rattle.lines.specs.Fields.{LineHolds}
+use Rattle.lines.specs.Laws.{InPlace, BuildSays}
 use Rattle.lines.specs.Lines.{place, within, nth_place}
 use Rattle.lines.specs.Scanning.{waiting, line_at}
 use Rattle.lines.proofs.Cuts.{recut_words, length_noted}
 use Rattle.lines.proofs.Passing.{window_length}
 use Rattle.lines.proofs.Pieces.{buffer_below}
 use Rattle.lines.proofs.Laying.{build_says, line_right}
-use Rattle.interp.specs.declared.Turn.TheVariants.{On, Refuse}
+use Rattle.interp.specs.declared.Turn.TheVariants.{Refuse}
 use Rattle.interp.specs.declared.registers.Registers.{Registers}
-use Rattle.interp.specs.Turns.{Did, says, top_of, under_of, worth_in, dropped}
-use Rattle.interp.specs.Texts.{text_in}
-use Rattle.representation.specs.Values.{Holds}
+use Rattle.interp.specs.Turns.{Did, says, dropped}
 use Rattle.representation.specs.Relation.{LineSo, Running}
-use Rattle.representation.specs.Outcomes.{RowKept, Performs}
+use Rattle.representation.specs.Outcomes.{Performs}
 use Rattle.representation.proofs.Stack.{top_worth, under_worth}
 use Rattle.representation.proofs.Running.{kept_row, drops_so, fails_so}
 use Rattle.engine.specs.Setting as setting

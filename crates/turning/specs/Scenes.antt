@@ -3,8 +3,8 @@ use Rattle.std.specs.Prelude.{◌≡◌, ℕ, ◌<◌, ◌≤◌, Bool, ◌⊎�
 use Rattle.language.specs.Text
 use Rattle.language.specs.Text.{each}
 use Rattle.language.specs.Program.{Program}
-use Rattle.language.specs.Meaning.{State, Went}
-use Rattle.semantics.specs.Stack.{Config, at, off, val}
+use Rattle.language.specs.Meaning.{State}
+use Rattle.semantics.specs.Stack.{at, off, val}
 use Rattle.semantics.specs.Code.{program_code}
 use Rattle.semantics.specs.Lines.{Stage, Live, live, over}
 use Rattle.assembly.specs.Assembly.{lean_place}

@@ -1,4 +1,5 @@
 // Every turn of the engine follows the abstract run.
+#![tactic(auto)]
 
 // Nothing yet.
 pub fn stands() {}

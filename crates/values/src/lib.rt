@@ -1,4 +1,6 @@
 // Values of the language: numbers and texts, what is reckoned with them, and where the parts of a text stand.
+#![tactic(auto)]
+
 pub mod compare;
 pub mod fields;
 pub mod numbers;

@@ -1,7 +1,7 @@
-use Rattle.std.proofs.Common.{◌≡◌, ◌<◌, ◌≤◌, length, ap, ◌∙◌, arith}
+use Rattle.std.proofs.Common.{◌≡◌, ◌≤◌, length, ap, ◌∙◌, arith}
 use Rattle.store.specs.Words.{window}
 use Rattle.regions.specs.Parts.{parts}
-use Rattle.interp.proofs.Copying.{window_size, LineMade, line_short, line_long, line_none}
+use Rattle.interp.proofs.Copying.{window_size, line_short, line_long, line_none}
 use Rattle.interp.proofs.fields.line_value.Goals as goal
 
 pub short_packed-requires : goal.short_packed-requires

@@ -1,4 +1,4 @@
-use Rattle.std.proofs.Common.{◌≡◌, sym, refl, ap, ◌∙◌, w64, to_z, of_z, rules}
+use Rattle.std.proofs.Common.{◌≡◌, refl, ap, ◌∙◌, w64, to_z, of_z, rules}
 use Rattle.store.specs.Numbers.{number}
 use Rattle.store.specs.declared.cells.Value.TheVariants.{Number}
 use Rattle.values.proofs.Comparing.{number_itself}

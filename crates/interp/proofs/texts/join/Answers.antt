@@ -1,4 +1,4 @@
-use Rattle.std.proofs.Common.{◌≡◌, ◌≤◌, ◌++◌, length, sym, ap, ◌∙◌, arith}
+use Rattle.std.proofs.Common.{◌++◌, length, ap, ◌∙◌, arith}
 use Rattle.store.specs.Words.{bytes_of}
 use Rattle.store.proofs.Packing.{length_bytes}
 use Rattle.regions.specs.Parts.{parts}

@@ -1,4 +1,4 @@
-use Rattle.std.proofs.Common.{◌≡◌, ◌-◌, sym, refl, ap, ◌∙◌, rules}
+use Rattle.std.proofs.Common.{◌∙◌, rules}
 use Rattle.store.specs.declared.cells.Value.TheVariants.{Text as InText}
 use Rattle.regions.specs.Parts.{parts}
 use Rattle.interp.specs.Texts.{joined_long}

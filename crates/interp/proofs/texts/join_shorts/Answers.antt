@@ -1,4 +1,4 @@
-use Rattle.std.proofs.Common.{◌≡◌, ℕ, ◌+◌, ◌*◌, ◌%◌, ◌^◌, ◌<◌, ◌≤◌, ◌++◌, sym, ap, ◌∙◌, subst, append-nil, lt_of_lt_of_le, arith, pow_mono}
+use Rattle.std.proofs.Common.{◌+◌, ◌*◌, ◌%◌, ◌^◌, ◌<◌, ◌≤◌, ◌++◌, sym, ap, ◌∙◌, subst, append-nil, lt_of_lt_of_le, arith, pow_mono}
 use Rattle.store.specs.declared.short.Short.{Short}
 use Rattle.store.specs.Words.{bytes_of}
 use Rattle.store.proofs.Merging.{two_parts}

@@ -1,4 +1,4 @@
-use Rattle.std.proofs.Common.{◌≡◌, ℕ, ◌^◌, ◌<◌, List, length, sym, ap, ◌∙◌, subst, arith}
+use Rattle.std.proofs.Common.{ℕ, ◌^◌, ◌<◌, List, length, sym, ap, ◌∙◌, subst, arith}
 use Rattle.store.specs.Words.{bytes_of}
 use Rattle.store.proofs.Shorts.{packed_bound, packed_bytes}
 use Rattle.interp.proofs.texts.short_of.Goals as goal

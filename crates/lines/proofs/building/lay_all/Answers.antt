@@ -1,9 +1,8 @@
-use Rattle.std.proofs.Common.{◌≡◌, ℕ, ◌+◌, ◌<◌, ◌≤◌, ◌≢◌, List, length, get_or, sym, ap, ◌∙◌, arith}
+use Rattle.std.proofs.Common.{◌≡◌, ℕ, ◌≢◌, List, get_or, sym, ap, ◌∙◌, arith}
 use Rattle.std.proofs.lemmas.List.{get_or-set_other}
 use Rattle.regions.specs.Parts.{Parts, parts}
 use Rattle.regions.specs.Places.{place_word}
-use Rattle.lines.specs.declared.building.Piece.{Piece}
-use Rattle.lines.specs.Building.{buffer_of, piece_of, pieces, total, laid_one}
+use Rattle.lines.specs.Building.{buffer_of, piece_of, laid_one}
 use Rattle.lines.specs.Lines.{place}
 use Rattle.lines.proofs.Pieces.{buffer_below, same_piece, total_turn, room_left, laid_turn, laid_done}
 use Rattle.lines.proofs.building.lay_all.Goals as goal

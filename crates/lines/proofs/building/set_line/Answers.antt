@@ -1,7 +1,7 @@
-use Rattle.std.proofs.Common.{◌≡◌, ℕ, List, length, sym, ap, ◌∙◌}
+use Rattle.std.proofs.Common.{◌≡◌, ℕ, List, length, ap, ◌∙◌}
 use Rattle.store.specs.Words.{window, put_bytes}
 use Rattle.regions.specs.Parts.{Parts, parts, with_fields, with_lines}
-use Rattle.lines.specs.Building.{buffer_of, with_text, recut_text, after_line, line_of}
+use Rattle.lines.specs.Building.{buffer_of, with_text, after_line, line_of}
 use Rattle.lines.specs.Cutting.{recut_of}
 use Rattle.lines.specs.Scanning.{line_at}
 use Rattle.lines.proofs.building.set_line.Goals as goal

@@ -1,4 +1,4 @@
-use Rattle.std.proofs.Common.{◌≡◌, sym, ap, ◌∙◌}
+use Rattle.std.proofs.Common.{sym, ap, ◌∙◌}
 use Rattle.regions.specs.Parts.{parts, with_fields}
 use Rattle.lines.proofs.Passing.{words_ended, count_ended, words_kept, count_kept}
 use Rattle.lines.proofs.cutting.close.Goals as goal

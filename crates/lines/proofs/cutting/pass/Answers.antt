@@ -1,4 +1,4 @@
-use Rattle.std.proofs.Common.{◌≡◌, ◌+◌, sym, ap, ◌∙◌}
+use Rattle.std.proofs.Common.{◌+◌, sym, ap, ◌∙◌}
 use Rattle.regions.specs.Parts.{parts, with_fields}
 use Rattle.lines.specs.Cutting.{cut_of, cuts_of}
 use Rattle.lines.proofs.Passing.{passes_blank, passes_other}

@@ -1,8 +1,8 @@
-use Rattle.std.proofs.Common.{◌≡◌, ℕ, ◌+◌, ◌<◌, List, length, sym, ap, ◌∙◌, arith}
+use Rattle.std.proofs.Common.{◌≡◌, ℕ, List, length, sym, ap, ◌∙◌, arith}
 use Rattle.store.specs.Words.{window}
 use Rattle.regions.specs.Parts.{Parts, parts, with_fields}
 use Rattle.regions.proofs.Regions.{lines_length}
-use Rattle.lines.specs.Cutting.{Cuts, cuts_of, closed, closed_count, pass_all, recut_of}
+use Rattle.lines.specs.Cutting.{cuts_of, closed, closed_count, recut_of}
 use Rattle.lines.proofs.Passing.{window_length, pass_at, pass_turn, pass_end, fields_only, byte_of}
 use Rattle.lines.proofs.cutting.recut.Goals as goal
 

@@ -1,10 +1,10 @@
-use Rattle.std.proofs.Common.{◌≡◌, ℕ, ◌+◌, ◌-◌, min, true, false, List, drop, sym, ap, ◌∙◌, arith}
+use Rattle.std.proofs.Common.{◌≡◌, ℕ, ◌+◌, ◌-◌, min, true, false, drop, sym, ap, ◌∙◌, arith}
 use Rattle.store.specs.Words.{window}
 use Rattle.regions.specs.Parts.{Parts, parts, with_fields}
 use Rattle.regions.proofs.Regions.{lines_length}
 use Rattle.lines.specs.declared.input.Input.{Input}
-use Rattle.lines.specs.declared.input.Found.TheVariants.{Whole, Part}
-use Rattle.lines.specs.Cutting.{cuts_of, fresh_cut}
+use Rattle.lines.specs.declared.input.Found.TheVariants.{Whole}
+use Rattle.lines.specs.Cutting.{cuts_of}
 use Rattle.lines.specs.Scanning.{Scanned, scan_on, scan_of, input_of, line_at}
 use Rattle.lines.proofs.Waiting.{window_all, after_found, after_part, found_whole, found_part}
 use Rattle.lines.proofs.input.scan.Goals as goal

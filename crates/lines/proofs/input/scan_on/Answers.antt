@@ -1,9 +1,9 @@
-use Rattle.std.proofs.Common.{◌≡◌, ℕ, ◌+◌, ◌<◌, true, false, List, length, sym, ap, ◌∙◌, subst, arith}
+use Rattle.std.proofs.Common.{◌≡◌, ℕ, List, length, sym, ap, ◌∙◌, arith}
 use Rattle.store.specs.Words.{window}
 use Rattle.regions.specs.Parts.{Parts, parts, with_fields}
 use Rattle.regions.proofs.Regions.{lines_length}
 use Rattle.std.proofs.lemmas.Bool.{false≢true}
-use Rattle.lines.specs.Cutting.{Cuts, cuts_of, cut_of, closed, pass_other}
+use Rattle.lines.specs.Cutting.{Cuts, cuts_of, cut_of, pass_other}
 use Rattle.lines.proofs.Passing.{window_length, passes_other, above_blank, pass_at, scan_turn, scan_stop, scan_end, fields_only, byte_of}
 use Rattle.lines.proofs.input.scan_on.Goals as goal
 

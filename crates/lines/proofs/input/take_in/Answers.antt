@@ -1,5 +1,5 @@
-use Rattle.std.proofs.Common.{◌≡◌, ℕ, ◌+◌, ◌-◌, min, List, length, take, sym, ap, ◌∙◌, arith, length-take}
-use Rattle.store.specs.Words.{window, put_bytes}
+use Rattle.std.proofs.Common.{◌≡◌, ℕ, ◌-◌, min, List, length, take, sym, ap, ◌∙◌, arith, length-take}
+use Rattle.store.specs.Words.{put_bytes}
 use Rattle.regions.specs.Parts.{Parts, parts, with_lines}
 use Rattle.regions.proofs.Regions.{lines_length}
 use Rattle.lines.specs.declared.input.Input.{Input}

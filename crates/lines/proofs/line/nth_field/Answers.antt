@@ -1,9 +1,6 @@
-use Rattle.std.proofs.Common.{◌≡◌, ◌-◌, ltb, get_or, sym, ap, ◌∙◌, inl, inr, arith}
-use Rattle.std.proofs.lemmas.Bool.{lt-ltb, le-ltb, eq-eqb, ne_eqb}
+use Rattle.std.proofs.Common.{sym, ap, ◌∙◌, inl, inr}
 use Rattle.regions.specs.Parts.{parts}
-use Rattle.language.specs.Text.{pick, or}
-use Rattle.regions.specs.Places.{place_of}
-use Rattle.lines.specs.Lines.{nth_place, place, within}
+use Rattle.lines.specs.Lines.{place, within}
 use Rattle.lines.proofs.Places.{nth_none, nth_some}
 use Rattle.lines.proofs.line.nth_field.Goals as goal
 

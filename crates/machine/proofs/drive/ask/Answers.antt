@@ -1,4 +1,4 @@
-use Rattle.std.proofs.Common.{◌≡◌, ℕ, ◌-◌, ◌≤◌, List, length, sym, subst, arith, length-take}
+use Rattle.std.proofs.Common.{◌≡◌, length, arith, length-take}
 use native.Mathlib.Nat.{sub-zero}
 use Rattle.machine.proofs.Driving.{asks_again, asks_none, asks_piece}
 use Rattle.machine.proofs.drive.ask.Goals as goal

@@ -1,4 +1,4 @@
-use Rattle.std.proofs.Common.{◌≡◌, replicate, sym, refl, ◌∙◌, arith}
+use Rattle.std.proofs.Common.{refl, ◌∙◌}
 use Rattle.machine.specs.Entry.{own}
 use Rattle.machine.specs.Drive.{EndedSo}
 use Rattle.machine.proofs.drive.drive.Goals as goal

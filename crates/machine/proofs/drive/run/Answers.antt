@@ -1,4 +1,4 @@
-use Rattle.std.proofs.Common.{◌≡◌, length, sym, refl, ap, ◌∙◌, arith}
+use Rattle.std.proofs.Common.{◌≡◌, length, refl, ap, ◌∙◌, arith}
 use Rattle.machine.specs.Drive.{EndedSo}
 use Rattle.machine.proofs.Says.{own_length}
 use Rattle.machine.proofs.Driving.{starts, still, done_with, refused_with, write_within, turned}

@@ -1,4 +1,4 @@
-use Rattle.regions.specs.Places.{place_word, place_of, PlacesComeBack}
+use Rattle.regions.specs.Places.{PlacesComeBack}
 use Rattle.regions.proofs.Places.{come_back}
 use Rattle.regions.proofs.fields.places_come_back.Goals as goal
 

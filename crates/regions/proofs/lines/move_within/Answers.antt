@@ -1,7 +1,4 @@
-use Rattle.std.proofs.Common.{◌≡◌, ℕ, ◌+◌, ◌-◌, ◌*◌, min, List, length, ap, ◌∙◌, arith}
-use Rattle.store.specs.Words.{put_bytes, window}
-use Rattle.store.proofs.Packing.{window_cut}
-use Rattle.store.proofs.Moving.{length_window, window_front}
+use Rattle.std.proofs.Common.{◌∙◌}
 use Rattle.regions.proofs.Moving.{moved_cut}
 use Rattle.regions.proofs.lines.move_within.Goals as goal
 

@@ -1,7 +1,7 @@
-use Rattle.std.proofs.Common.{◌≡◌, ℕ, List, Some, None, sym, ap, ◌∙◌, arith}
+use Rattle.std.proofs.Common.{ℕ, List, Some, sym, ap, ◌∙◌, arith}
 use Rattle.store.specs.declared.cells.Value.TheVariants.{Text}
 use Rattle.store.specs.Space.{Space, Given, space}
-use Rattle.store.specs.Values.{Made, filled}
+use Rattle.store.specs.Values.{filled}
 use Rattle.store.proofs.Coding.{made_short, made_long}
 use Rattle.store.proofs.cells.new_text.Goals as goal
 

@@ -1,5 +1,4 @@
-use Rattle.std.proofs.Common.{◌≡◌, refl, ◌∙◌, inl, arith, w64, SFits, of_z, rules}
-use Rattle.std.proofs.lemmas.Int.{ints}
+use Rattle.std.proofs.Common.{◌≡◌, refl, inl, arith, w64, SFits, of_z, rules}
 use Rattle.store.specs.declared.cells.Value.TheVariants.{Unset, Number, Text, Short as InShort}
 use Rattle.store.proofs.Coding.{decode_none, decode_text, number_back, short_back, told_back, told_payload}
 use Rattle.store.proofs.cells.payload_of.Goals as goal

@@ -1,6 +1,6 @@
-use Rattle.std.proofs.Common.{◌≡◌, ℕ, ◌+◌, ◌*◌, List, set, sym, ap, ◌∙◌, arith}
+use Rattle.std.proofs.Common.{ℕ, ◌+◌, ◌*◌, List, set, sym, ap, ◌∙◌, arith}
 use Rattle.std.proofs.lemmas.List.{set_past}
-use Rattle.store.specs.Values.{decode, decoded, payload_of}
+use Rattle.store.specs.Values.{decode, decoded}
 use Rattle.store.proofs.Coding.{decoded_set, length_decoded, saved_there, saved_past}
 use Rattle.store.proofs.cells.save.Goals as goal
 

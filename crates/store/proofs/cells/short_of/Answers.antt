@@ -1,5 +1,5 @@
-use Rattle.std.proofs.Common.{◌≡◌, ℕ, ◌^◌, ◌<◌, List, length, sym, ◌∙◌, subst, arith}
-use Rattle.store.specs.Short.{packed, short_of}
+use Rattle.std.proofs.Common.{ℕ, ◌^◌, ◌<◌, List, length, sym, ◌∙◌, subst, arith}
+use Rattle.store.specs.Short.{short_of}
 use Rattle.store.proofs.Shorts.{packed_bound, short_same, short_len, short_word}
 use Rattle.store.proofs.cells.short_of.Goals as goal
 

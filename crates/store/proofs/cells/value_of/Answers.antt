@@ -1,4 +1,4 @@
-use Rattle.std.proofs.Common.{◌≡◌, ℕ, ◌-◌, ◌%◌, ◌^◌, ◌<◌, ◌≤◌, sym, ap, ◌∙◌, inl, inr, mod-lt, arith, rules}
+use Rattle.std.proofs.Common.{ℕ, ◌-◌, sym, ap, ◌∙◌, inl, inr, mod-lt, arith}
 use Rattle.std.proofs.lemmas.Int.{ints}
 use Rattle.store.specs.declared.cells.Value.TheVariants.{Number, Short as InShort}
 use Rattle.store.specs.Short.{low_short, pow_above}

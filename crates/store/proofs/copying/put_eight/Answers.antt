@@ -1,4 +1,4 @@
-use Rattle.std.proofs.Common.{◌≡◌, ℕ, List, [], ◌∷◌, get_or, ap, ◌∙◌, arith}
+use Rattle.std.proofs.Common.{ℕ, List, [], ◌∷◌, get_or, ap, ◌∙◌}
 use lib.Seq.{paste}
 use Rattle.store.proofs.Pasting.{eight_set, eight_bytes}
 use Rattle.store.proofs.copying.put_eight.Goals as goal

@@ -1,7 +1,6 @@
 use Rattle.std.proofs.Common.{◌≡◌, ℕ, ◌+◌, ◌*◌, List, take, drop, sym, ap, ◌∙◌, arith, length-drop, drop-drop}
 use lib.Seq.{paste}
 use Rattle.std.proofs.lemmas.List.Edits.{paste_none}
-use Rattle.store.specs.Words.{bytes_of}
 use Rattle.store.proofs.Pasting.{paste_on}
 use Rattle.store.proofs.copying.words_out.Goals as goal
 

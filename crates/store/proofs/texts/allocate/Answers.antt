@@ -1,5 +1,5 @@
 use Rattle.std.proofs.Common.{rules}
-use Rattle.store.specs.Space.{space, allocated}
+use Rattle.store.specs.Space.{allocated}
 use Rattle.store.proofs.texts.allocate.Goals as goal
 
 pub returns : goal.returns

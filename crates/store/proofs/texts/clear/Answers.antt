@@ -1,5 +1,5 @@
-use Rattle.std.proofs.Common.{◌≡◌, ◌+◌, ◌-◌, sym, ap, ◌∙◌, arith}
-use Rattle.store.specs.Space.{Space, space, with_table, with_top, with_free, chained, emptied}
+use Rattle.std.proofs.Common.{◌+◌, ◌-◌, sym, ap, ◌∙◌, arith}
+use Rattle.store.specs.Space.{space, with_table, with_top, with_free, chained, emptied}
 use Rattle.store.proofs.Emptying.{chained_more, chained_done}
 use Rattle.store.proofs.texts.clear.Goals as goal
 

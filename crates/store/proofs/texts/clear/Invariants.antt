@@ -1,5 +1,5 @@
 use Rattle.std.proofs.Common.{◌≡◌, ◌-◌}
-use Rattle.store.specs.Space.{Space, space, with_table, chained}
+use Rattle.store.specs.Space.{space, with_table, chained}
 use Rattle.store.proofs.texts.clear.Given as goal
 
 abbrev pub invariant-loop-h : goal.invariant-loop-h

@@ -1,5 +1,5 @@
 use Rattle.std.proofs.Common.{rules}
-use Rattle.store.specs.Space.{space, compacted}
+use Rattle.store.specs.Space.{compacted}
 use Rattle.store.proofs.texts.compact.Goals as goal
 
 pub returns : goal.returns

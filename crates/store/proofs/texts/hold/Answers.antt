@@ -1,5 +1,5 @@
 use Rattle.std.proofs.Common.{rules}
-use Rattle.store.specs.Space.{space, raised}
+use Rattle.store.specs.Space.{raised}
 use Rattle.store.proofs.texts.hold.Goals as goal
 
 pub returns : goal.returns

@@ -1,5 +1,5 @@
 use Rattle.std.proofs.Common.{rules}
-use Rattle.store.specs.Space.{space, taken}
+use Rattle.store.specs.Space.{taken}
 use Rattle.store.proofs.texts.lay.Goals as goal
 
 pub returns : goal.returns

@@ -1,5 +1,5 @@
 use Rattle.std.proofs.Common.{rules}
-use Rattle.store.specs.Space.{space, lowered, freed}
+use Rattle.store.specs.Space.{lowered, freed}
 use Rattle.store.proofs.texts.release.Goals as goal
 
 pub returns-then-count-gt1 : goal.returns-then-count-gt1

@@ -1,4 +1,4 @@
-use Rattle.std.proofs.Common.{◌≡◌, ℕ, ◌+◌, ◌-◌, drop, sym, ap, ◌∙◌, arith, drop-drop}
+use Rattle.std.proofs.Common.{◌≡◌, ◌+◌, ◌-◌, drop, sym, ap, ◌∙◌, arith, drop-drop}
 use lib.Seq.{paste}
 use Rattle.store.specs.Space.{space, with_heap}
 use Rattle.store.proofs.Parts.{heap_is, pasted, paste_self}

@@ -1,5 +1,5 @@
-use Rattle.std.proofs.Common.{◌≡◌, ℕ, suc, ◌+◌, ◌-◌, min, sym, ap, ◌∙◌, arith}
-use Rattle.store.specs.Space.{space, slid, step_of, put_entry, moved}
+use Rattle.std.proofs.Common.{◌≡◌, ◌+◌, ◌-◌, sym, ap, ◌∙◌, arith}
+use Rattle.store.specs.Space.{space, slid, step_of, put_entry}
 use Rattle.store.proofs.Sliding.{slid_end, turn_live, turn_dead, turns_done}
 use Rattle.store.proofs.texts.slide.Goals as goal
 use Rattle.store.proofs.texts.slide.Goals.{then-h-lt-HANDLES, else-h-lt-HANDLES}

@@ -1,5 +1,5 @@
 use Rattle.std.proofs.Common.{rules}
-use Rattle.store.specs.Space.{space, tried}
+use Rattle.store.specs.Space.{tried}
 use Rattle.store.proofs.texts.take_top.Goals as goal
 
 pub returns-then-fits : goal.returns-then-fits

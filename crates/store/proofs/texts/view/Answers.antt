@@ -1,4 +1,4 @@
-use Rattle.std.proofs.Common.{ap, ◌∙◌, arith}
+use Rattle.std.proofs.Common.{ap, ◌∙◌}
 use Rattle.store.specs.Words.{window}
 use Rattle.store.specs.Space.{space, bytes_at, text_of}
 use Rattle.store.proofs.Parts.{heap_part}

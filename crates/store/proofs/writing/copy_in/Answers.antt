@@ -1,5 +1,4 @@
-use Rattle.std.proofs.Common.{◌≡◌, ℕ, ◌+◌, ◌-◌, ◌*◌, ◌/◌, ◌<◌, min, List, length, take, drop, sym, refl, ap, ◌∙◌, arith}
-use Rattle.store.specs.Words.{put_bytes}
+use Rattle.std.proofs.Common.{◌≡◌, ℕ, ◌+◌, ◌-◌, ◌*◌, ◌/◌, min, List, length, drop, sym, refl, ◌∙◌, arith}
 use Rattle.store.proofs.Putting.{puts_none, puts_all, three_parts, words_placed}
 use Rattle.store.proofs.writing.copy_in.Goals as goal
 

@@ -1,4 +1,4 @@
-use Rattle.std.proofs.Common.{◌≡◌, ◌+◌, length, take, drop, sym, ap, ◌∙◌, arith, length-drop, get_or-drop}
+use Rattle.std.proofs.Common.{◌≡◌, ◌+◌, take, drop, sym, ap, ◌∙◌, arith, length-drop, get_or-drop}
 use Rattle.store.specs.Words.{put_byte, put_bytes}
 use Rattle.store.proofs.Putting.{puts_none, puts_more}
 use Rattle.store.proofs.writing.put_bytes.Goals as goal

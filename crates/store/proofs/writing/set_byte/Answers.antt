@@ -1,4 +1,4 @@
-use Rattle.std.proofs.Common.{◌≡◌, ℕ, ◌/◌, ◌%◌, ◌^◌, ◌<◌, get_or, set, sym, ap, arith, rules}
+use Rattle.std.proofs.Common.{ℕ, ◌/◌, ◌%◌, ◌^◌, ◌<◌, get_or, set, sym, ap, arith, rules}
 use Rattle.store.specs.Words.{with_byte, put_byte}
 use Rattle.store.proofs.Packing.{cleared_le, put_code, put_lt}
 use Rattle.store.proofs.Putting.{put_past}

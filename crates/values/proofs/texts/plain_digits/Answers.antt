@@ -1,6 +1,5 @@
-use Rattle.std.proofs.Common.{◌≡◌, ◌+◌, ◌-◌, ◌*◌, length, take, drop, Some, sym, ap, ◌∙◌, inr, pow-suc, zero-add, add-one, arith}
-use Rattle.language.specs.Text.{digit, leading}
-use Rattle.values.specs.Texts.{run}
+use Rattle.std.proofs.Common.{Some, sym, ap, ◌∙◌, inr, pow-suc, zero-add, add-one, arith}
+use Rattle.language.specs.Text.{digit}
 use Rattle.values.proofs.Reading.{under, lead_more, lead_end, digit_low, run_more, run_over, plain_empty, plain_long, plain_other, plain_is}
 use Rattle.values.proofs.texts.plain_digits.Goals as goal
 

@@ -1,4 +1,4 @@
-use Rattle.std.proofs.Common.{sym, ap, ◌∙◌, arith, length-drop}
+use Rattle.std.proofs.Common.{arith, length-drop}
 use Rattle.store.proofs.decimal.DecimalBytes.len.Goals as goal
 
 pub returns : goal.returns
