@@ -1,4 +1,4 @@
-/* One step of the machine, for C. Link target/staticlib/libmachine.a, which `rt staticlib machine` makes, and the toolchain's librattle_c.a. */
+/* One step of the machine, for C. Link target/staticlib/libmachine.a, which tools/staticlib makes. */
 #ifndef MOVKRESAN_H
 #define MOVKRESAN_H
 
