@@ -7,7 +7,7 @@ use Rattle.language.specs.Run.{Engine, Event, started, bytes, no_more, next, Act
 use Rattle.machine.specs.declared.Told.{Told}
 use Rattle.machine.specs.declared.Told.TheVariants.{More, Write, Done, No}
 use Rattle.machine.specs.Entry.{own, ActTold, StepSays, step_fits, event_of}
-use Rattle.machine.specs.Drive.{Call, took, ended, showed, asks, obeyed, calls, shown, ShownIsWritten, Account, Chain, Going, Goes_on, Reached, done_end, refused_end}
+use Rattle.machine.specs.Drive.{Call, took, ended, showed, asks, obeyed, calls, shown, ShownIsWritten, Account, Chain, Going, GoesOn, Reached, done_end, refused_end}
 use Rattle.machine.proofs.Says.{own_length}
 
 chain_on : {S : Type 0} (a : Account S) (s : S) (cs ds : List Call) (r q : S) → Chain a s cs r → Chain a r ds q → Chain a s (cs ++ ds) q
@@ -240,11 +240,11 @@ module _ {S : Type 0} (a : Account S) (t : List ℕ) (w₀ : S) (over : Bool) (t
 -- a turn of the driver, under other names for what it leaves
 pub turned : {S : Type 0} (a : Account S) (t : List ℕ) (w₀ : S) (told₀ told : Told) (over : Bool) (row m : List ℕ) (w : S) (r r₂ : Option Told) (told₂ : Told)
     (over₁ over₂ : Bool) (row₁ row₂ m₁ m₂ : List ℕ) (w₁ w₂ : S) → told₀ ≡ told → r₂ ≡ r → r₂ ≡ Some told₂ → over₂ ≡ over₁ → row₂ ≡ row₁ → m₂ ≡ m₁ → w₂ ≡ w₁ →
-    Goes_on a told over row m w r over₁ row₁ m₁ w₁ → Going a t w₀ over told₀ row m w → Going a t w₀ over₂ told₂ row₂ m₂ w₂
+    GoesOn a told over row m w r over₁ row₁ m₁ w₁ → Going a t w₀ over told₀ row m w → Going a t w₀ over₂ told₂ row₂ m₂ w₂
 turned {S} a t w₀ told₀ told over row m w r r₂ told₂ over₁ over₂ row₁ row₂ m₁ m₂ w₁ w₂ d e f o p q s h G =
     let A : Told → Type 0 = λ x. Going a t w₀ over x row m w in
-    let B : Option Told → Type 0 = λ x. Goes_on a told over row m w x over₁ row₁ m₁ w₁ in
-    let i : Goes_on a told over row m w (Some told₂) over₁ row₁ m₁ w₁ = subst B (sym e ∙ f) h in
+    let B : Option Told → Type 0 = λ x. GoesOn a told over row m w x over₁ row₁ m₁ w₁ in
+    let i : GoesOn a told over row m w (Some told₂) over₁ row₁ m₁ w₁ = subst B (sym e ∙ f) h in
     let C : Bool → Type 0 = λ x. Going a t w₀ x told₂ row₁ m₁ w₁ in
     let D : List ℕ → Type 0 = λ x. Going a t w₀ over₂ told₂ x m₁ w₁ in
     let E : List ℕ → Type 0 = λ x. Going a t w₀ over₂ told₂ row₂ x w₁ in

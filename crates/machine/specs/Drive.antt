@@ -93,9 +93,9 @@ pub record Going {S : Type 0} (a : Account S) (t : List ℕ) (w₀ : S) (over : 
   pub says : ActTold act told lent row
 
 -- one act more, unless the world failed
-abbrev pub Goes_on : {S : Type 0} → Account S → Told → (over : Bool) (row m : List ℕ) → S → Option Told → (over₁ : Bool) (row₁ m₁ : List ℕ) → S → Type 0
-Goes_on {S} a told over row m w None over₁ row₁ m₁ w₁ = Unit {0}
-Goes_on {S} a told over row m w (Some told₁) over₁ row₁ m₁ w₁ = (t : List ℕ) (w₀ : S) → Going a t w₀ over told row m w → Going a t w₀ over₁ told₁ row₁ m₁ w₁
+abbrev pub GoesOn : {S : Type 0} → Account S → Told → (over : Bool) (row m : List ℕ) → S → Option Told → (over₁ : Bool) (row₁ m₁ : List ℕ) → S → Type 0
+GoesOn {S} a told over row m w None over₁ row₁ m₁ w₁ = Unit {0}
+GoesOn {S} a told over row m w (Some told₁) over₁ row₁ m₁ w₁ = (t : List ℕ) (w₀ : S) → Going a t w₀ over told row m w → Going a t w₀ over₁ told₁ row₁ m₁ w₁
 
 -- the number of a run's end: as `run_of` has it
 abbrev pub done_end : ℕ → ℕ

@@ -3,7 +3,7 @@ ghost use Rattle.std.specs.Prelude.{◌≡◌, ℕ, ◌≤◌, Bool, true, List,
 ghost use Rattle.machine.specs.declared.Told.TheVariants.{More, Write};
 ghost use Rattle.language.specs.Run.{a_row};
 ghost use Rattle.machine.specs.Entry.{own};
-ghost use Rattle.machine.specs.Drive.{Account, Gives, Shows, Goes_on, EndedSo, ShownIsWritten};
+ghost use Rattle.machine.specs.Drive.{Account, Gives, Shows, GoesOn, EndedSo, ShownIsWritten};
 
 use crate::{MEMORY, ROW, Told, step};
 use std::alloc::Global;
@@ -54,7 +54,7 @@ fn ask<W: World>(
     over: &mut bool,
 ) -> Option<Told>
     requires { (length memory.old ≡ 262144) × ((length piece.old ≡ 4096) × (length row.old ≡ 4096)) }
-    ensures { Goes_on W.World.account More over.old row.old memory.old world.old result over.new row.new memory.new world.new }
+    ensures { GoesOn W.World.account More over.old row.old memory.old world.old result over.new row.new memory.new world.new }
 {
     if *over {
         return Some(step(memory, 2, &piece[0..0], row));
@@ -81,7 +81,7 @@ fn show_front<W: World>(world: &mut W, row: &[u8], n: usize) -> bool
 // The machine writes so many bytes of the row: the world shows them, and the machine is told to go on.
 fn put<W: World>(world: &mut W, memory: &mut [u64], row: &mut [u8], n: u64) -> Option<Told>
     requires { (length memory.old ≡ 262144) × ((length row.old ≡ 4096) × (n ≤ 4096)) }
-    ensures { (over : Bool) → Goes_on W.World.account (Write n) over row.old memory.old world.old result over row.new memory.new world.new }
+    ensures { (over : Bool) → GoesOn W.World.account (Write n) over row.old memory.old world.old result over row.new memory.new world.new }
 {
     if !show_front(world, row, n as usize) {
         return None;
