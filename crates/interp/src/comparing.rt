@@ -30,6 +30,13 @@ impl Bytes for NoText {
     fn at(&self, _i: usize) -> u8 {
         0
     }
+
+    // Any word will do, since there are no bytes to read it from.
+    fn word(&self, _i: usize) -> u64
+        ensures { result ≡ 0 }
+    {
+        0
+    }
 }
 
 fn compare_numbers(c: Comparison, m: i64, n: i64) -> bool
