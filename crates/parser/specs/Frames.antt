@@ -5,7 +5,8 @@ use Rattle.language.specs.Program
 use Rattle.language.specs.Program.{Term, Terms, no_terms, term_and, item, field, un, bin, put_in, call, part, split, swap, none, got, with_got, Reads, past, sees, rest, name_of, pattern_here, can_set, term, args}
 use Rattle.lexer.specs.Memory.{cell, Kept}
 use Rattle.parser.specs.Nodes.{operator_of, operator_number, prefix_of, prefix_number, Tree, TermsAt, Made}
-use Rattle.lexer.specs.Places.{Named, PatternAt, fuel, toks}
+use Rattle.lexer.specs.Places.{Named, PatternAt}
+pub use Rattle.lexer.specs.Places.{fuel, toks, Ready}
 use Rattle.parser.specs.Levels.{at, from}
 use Rattle.lexer.specs.declared.cells.Cell.{Cell}
 use Rattle.parser.specs.declared.nodes.TermNode.{TermNode}

@@ -5,7 +5,7 @@ use Rattle.language.specs.Program.{Term, num, txt, var, item, field, un, bin, li
 use Rattle.language.specs.Known.{plain_term, plain_terms}
 use Rattle.lexer.specs.Memory.{cell}
 use Rattle.lexer.specs.declared.cells.Cell.{Cell}
-use Rattle.lexer.specs.Places.{Named, QuotedAt, PatternAt}
+pub use Rattle.lexer.specs.Places.{Named, QuotedAt, PatternAt}
 use Rattle.lexer.specs.declared.tokens.Name.{Name}
 use Rattle.parser.specs.declared.nodes.Prefix.{Prefix}
 use Rattle.parser.specs.declared.nodes.Prefix.TheVariants.{Not as PNot, Negative as PNegative, Length as PLength, Upper as PUpper}
