@@ -13,7 +13,7 @@ use Rattle.parser.specs.declared.frames.Turn.{Turn}
 use Rattle.parser.specs.declared.nodes.ListNode.TheVariants.{Empty, More as Longer}
 use Rattle.parser.specs.declared.nodes.TermNode.TheVariants.{Call}
 use Rattle.parser.specs.Nodes.{TermsAt, Listed}
-use Rattle.parser.specs.Frames.{Begun, in_call, joined_terms, before, behind, resume, FrameSays, Stack, Before, Ended, Room, effort, Goes, Pushed, Grown, Closing, OnTop}
+use Rattle.parser.specs.Frames.{Begun, in_call, joined_terms, before, behind, resume, FrameSays, Stack, Before, Ended, Room, effort, Pays, Pushed, Grown, Closing, OnTop}
 use Rattle.lexer.proofs.Reach.{rest_toks, rest_two, rest_three, sees_ahead, tokens_kept}
 use Rattle.parser.proofs.Keeping.{stack_kept}
 use Rattle.parser.proofs.Moves.{enough, low_fits, goes_after, pushed_goes, grown_goes, plain_is, bit_is, made_none, made_more, made_call}
@@ -36,13 +36,13 @@ module _ (bs m m₁ : List ℕ) (count : ℕ) (s : Spot) (v : Name) (room : Room
   behind_bracket = ap rest (rest_toks bs s.place) ∙ rest_two bs s.place
 
   -- what goes on from there
-  onwards : (m₂ : List ℕ) (r : Turn) → Goes bs m₁ m₂ count (s.nodes + 1) (effort count s - 2) (Before bs m₁ (record { place = s.place; depth = s.depth; nodes = s.nodes + 1 })) r → 2 < effort count s → Goes bs m m₂ count s.nodes (effort count s) (Before bs m s) r
+  onwards : (m₂ : List ℕ) (r : Turn) → Pays bs m₁ m₂ count (s.nodes + 1) (effort count s - 2) (Before bs m₁ (record { place = s.place; depth = s.depth; nodes = s.nodes + 1 })) r → 2 < effort count s → Pays bs m m₂ count s.nodes (effort count s) (Before bs m s) r
   onwards m₂ r x h =
       goes_after bs m m₁ m₂ count s.nodes (s.nodes + 1) (effort count s) (effort count s - 2) (Before bs m s) (Before bs m₁ (record { place = s.place; depth = s.depth; nodes = s.nodes + 1 })) r (omega arith) room.low (omega arith) kept
       (λ g y. before_kept bs m m₁ s (s.nodes + 1) g (λ j a b. kept j (omega arith) b) (omega arith) (λ i q. w.others (21120 + i) (λ z. omega (arith, room.nodes, room.within, room.few))) y) x
 
   -- the bracket closes at once
-  pub call_none : (m₂ : List ℕ) (r : Turn) → sees 41 (toks bs (s.place + 2)) ≡ true → Grown m₁ m₂ (record { place = s.place; depth = s.depth; nodes = s.nodes + 1 }) (Call v s.nodes) false 3 8 r → Goes bs m m₂ count s.nodes (effort count s) (Before bs m s) r
+  pub call_none : (m₂ : List ℕ) (r : Turn) → sees 41 (toks bs (s.place + 2)) ≡ true → Grown m₁ m₂ (record { place = s.place; depth = s.depth; nodes = s.nodes + 1 }) (Call v s.nodes) false 3 8 r → Pays bs m m₂ count s.nodes (effort count s) (Before bs m s) r
   call_none m₂ r t q =
       let p = s.place in
       let x = bytes_of bs v in
@@ -65,7 +65,7 @@ module _ (bs m m₁ : List ℕ) (count : ℕ) (s : Spot) (v : Name) (room : Room
       (omega arith)
 
   -- an argument is to come
-  pub call_some : (m₂ : List ℕ) (r : Turn) → sees 41 (toks bs (s.place + 2)) ≡ false → Pushed m₁ m₂ (record { place = s.place; depth = s.depth; nodes = s.nodes + 1 }) (Arguments v s.nodes) 2 r → Goes bs m m₂ count s.nodes (effort count s) (Before bs m s) r
+  pub call_some : (m₂ : List ℕ) (r : Turn) → sees 41 (toks bs (s.place + 2)) ≡ false → Pushed m₁ m₂ (record { place = s.place; depth = s.depth; nodes = s.nodes + 1 }) (Arguments v s.nodes) 2 r → Pays bs m m₂ count s.nodes (effort count s) (Before bs m s) r
   unfolding FrameSays
   call_some m₂ r t q =
       let p = s.place in
@@ -118,7 +118,7 @@ module _ (bs m m₁ : List ℕ) (count : ℕ) (s : Spot) (i : ℕ) (v : Name) (l
 
   -- another argument is to come
   pub argument_more : (m₂ : List ℕ) (r : Turn) → sees 44 (toks bs s.place) ≡ true → Pushed m₁ m₂ (record { place = s.place; depth = s.depth - 1; nodes = s.nodes + 1 }) (Arguments v s.nodes) 1 r →
-      Goes bs m m₂ count s.nodes (effort count s + 3) (Ended bs m s i) r
+      Pays bs m m₂ count s.nodes (effort count s + 3) (Ended bs m s i) r
   unfolding FrameSays
   argument_more m₂ r t q =
       let s₁ : Spot = record { place = s.place; depth = s.depth - 1; nodes = s.nodes + 1 } in
@@ -142,7 +142,7 @@ module _ (bs m m₁ : List ℕ) (count : ℕ) (s : Spot) (i : ℕ) (v : Name) (l
 
   -- the bracket closes
   pub argument_last : (m₂ : List ℕ) (r : Turn) → sees 44 (toks bs s.place) ≡ false → Closing m₁ m₂ (record { place = s.place; depth = s.depth - 1; nodes = s.nodes + 1 }) (Call v s.nodes) false r (sees 41 (toks bs s.place)) →
-      Goes bs m m₂ count s.nodes (effort count s + 3) (Ended bs m s i) r
+      Pays bs m m₂ count s.nodes (effort count s + 3) (Ended bs m s i) r
   argument_last m₂ r t q =
       let s₁ : Spot = record { place = s.place; depth = s.depth - 1; nodes = s.nodes + 1 } in
       let ts = toks bs s.place in

@@ -12,7 +12,7 @@ use Rattle.parser.specs.declared.frames.Turn.{Turn}
 use Rattle.parser.specs.declared.frames.Turn.TheVariants.{Failed}
 use Rattle.parser.specs.Nodes.{Tree, Made, prefix_number}
 use Rattle.lexer.specs.Places.{fuel, toks}
-use Rattle.parser.specs.Frames.{Begun, in_split, high_of, before, behind, resume, FrameSays, Stack, Ended, Room, effort, Goes, Grown, Closing, Parting, OnTop}
+use Rattle.parser.specs.Frames.{Begun, in_split, high_of, before, behind, resume, FrameSays, Stack, Ended, Room, effort, Pays, Grown, Closing, Parting, OnTop}
 use Rattle.parser.proofs.Keeping.{Top, top}
 use Rattle.lexer.specs.Marks.{TokensIn}
 use Rattle.lexer.proofs.Reach.{rest_toks, rest_three, sees_ahead}
@@ -24,16 +24,16 @@ pub close_goes : (bs m m₁ : List ℕ) (count e : ℕ) (P : Reads Term → Type
     (sees c (toks bs s.place) ≡ true → Room count s.nodes 1 (record { place = s.place + 1; depth = s.depth; nodes = s.nodes + 1 })) →
     (s.place + 1 ≤ count → effort count (record { place = s.place + 1; depth = s.depth; nodes = s.nodes + 1 }) + 3 < e) →
     ((g : Reads Term) → P g → (fs : List Begun) × (a : Term) × Stack bs m s.nodes s.depth fs × (Made m m₁ s.nodes x p → Tree bs m₁ (s.nodes + 1) s.nodes a) × (past c (toks bs s.place) (λ us. behind (fuel bs) fs 8 a us) ≡ g)) →
-    Goes bs m m₁ count s.nodes e P r
+    Pays bs m m₁ count s.nodes e P r
 close_goes bs m m₁ count e P s x p c r w room falls h = go (sees c (toks bs s.place)) refl w
   where
-    go : (b : Bool) → sees c (toks bs s.place) ≡ b → Closing m m₁ s x p r b → Goes bs m m₁ count s.nodes e P r
+    go : (b : Bool) → sees c (toks bs s.place) ≡ b → Closing m m₁ s x p r b → Pays bs m m₁ count s.nodes e P r
     go true t v =
         grown_goes bs m m₁ count e P s x p 1 8 r v (omega arith) (room t) (falls (room t).within) (λ g y.
         let z = h g y in
         (z.0, z.1, z.2, z.3 v.made, ap (λ us. behind (fuel bs) z.0 8 z.1 us) (sym (rest_toks bs s.place)) ∙ sym (past_is c (toks bs s.place) (λ us. behind (fuel bs) z.0 8 z.1 us) t) ∙ z.4))
     go false t v =
-        subst (λ q. Goes bs m q count s.nodes e P r) (sym v.1) (subst (λ q. Goes bs m m count s.nodes e P q) (sym v.0)
+        subst (λ q. Pays bs m q count s.nodes e P r) (sym v.1) (subst (λ q. Pays bs m m count s.nodes e P q) (sym v.0)
         (failed_goes bs m count s.nodes e P (λ g y. let z = h g y in sym (past_none c (toks bs s.place) (λ us. behind (fuel bs) z.0 8 z.1 us) t) ∙ z.4)))
 
 -- a comma, or a failure
@@ -41,16 +41,16 @@ pub part_goes : (bs m m₁ : List ℕ) (count e : ℕ) (P : Reads Term → Type 
     (sees 44 (toks bs s.place) ≡ true → Room count s.nodes 0 (record { place = s.place + 1; depth = s.depth + 1; nodes = s.nodes })) →
     effort count (record { place = s.place + 1; depth = s.depth + 1; nodes = s.nodes }) < e →
     ((g : Reads Term) → P g → (fs : List Begun) × (b : Begun) × Stack bs m s.nodes s.depth fs × FrameSays bs m s.nodes f b × (past 44 (toks bs s.place) (λ us. before (fuel bs) (b ∷ fs) us) ≡ g)) →
-    Goes bs m m₁ count s.nodes e P r
+    Pays bs m m₁ count s.nodes e P r
 part_goes bs m m₁ count e P s f r w room falls h = go (sees 44 (toks bs s.place)) refl w
   where
-    go : (b : Bool) → sees 44 (toks bs s.place) ≡ b → Parting m m₁ s f r b → Goes bs m m₁ count s.nodes e P r
+    go : (b : Bool) → sees 44 (toks bs s.place) ≡ b → Parting m m₁ s f r b → Pays bs m m₁ count s.nodes e P r
     go true t v =
         pushed_goes bs m m₁ count e P s f 1 r v (room t) falls (λ g y.
         let z = h g y in
         (z.0, z.1, z.2, z.3, ap (λ us. before (fuel bs) (z.1 ∷ z.0) us) (sym (rest_toks bs s.place)) ∙ sym (past_is 44 (toks bs s.place) (λ us. before (fuel bs) (z.1 ∷ z.0) us) t) ∙ z.4))
     go false t v =
-        subst (λ q. Goes bs m q count s.nodes e P r) (sym v.1) (subst (λ q. Goes bs m m count s.nodes e P q) (sym v.0)
+        subst (λ q. Pays bs m q count s.nodes e P r) (sym v.1) (subst (λ q. Pays bs m m count s.nodes e P q) (sym v.0)
         (failed_goes bs m count s.nodes e P (λ g y. let z = h g y in sym (past_none 44 (toks bs s.place) (λ us. before (fuel bs) (z.1 ∷ z.0) us) t) ∙ z.4)))
 
 -- the frame on top of what ended
@@ -110,7 +110,7 @@ module _ (bs : List ℕ) (N : ℕ) (fs : List Begun) (a : Term) (p : ℕ) where
 -- the last frame ends with the operand that it waited for: what it then means is said of any frames below it
 pub end_fail : (bs m : List ℕ) (count : ℕ) (s : Spot) (i : ℕ) (f : Frame) → OnTop m s f →
     ((a : Term) → Tree bs m s.nodes i a → (b : Begun) → FrameSays bs m s.nodes f b → (fs : List Begun) → none ≡ resume (fuel bs) (b ∷ fs) a (toks bs s.place)) →
-    Goes bs m m count s.nodes (effort count s + 3) (Ended bs m s i) Failed
+    Pays bs m m count s.nodes (effort count s + 3) (Ended bs m s i) Failed
 end_fail bs m count s i f o j =
     failed_goes bs m count s.nodes (effort count s + 3) (Ended bs m s i) (λ g y.
     let v = topmost bs m s i f g o y in j y.operand y.tree v.first v.says v.others ∙ resumed bs m s i f g y v v.first refl)
@@ -120,7 +120,7 @@ module _ (bs m m₁ : List ℕ) (count : ℕ) (s : Spot) (i : ℕ) (f : Frame) (
   pub end_grown : (x : TermNode) (p : Bool) (h : ℕ) (r : Turn) → Grown m m₁ (record { place = s.place; depth = s.depth - 1; nodes = s.nodes }) x p 0 h r →
       ((a : Term) → Tree bs m s.nodes i a → (b : Begun) → FrameSays bs m s.nodes f b →
       (t : Term) × (Made m m₁ s.nodes x p → Tree bs m₁ (s.nodes + 1) s.nodes t) × (h ≤ 8) × ((fs : List Begun) → behind (fuel bs) fs h t (toks bs s.place) ≡ resume (fuel bs) (b ∷ fs) a (toks bs s.place))) →
-      Goes bs m m₁ count s.nodes (effort count s + 3) (Ended bs m s i) r
+      Pays bs m m₁ count s.nodes (effort count s + 3) (Ended bs m s i) r
   end_grown x p h r w j =
       let d = o.deep in
       grown_goes_high bs m m₁ count (effort count s + 3) (Ended bs m s i) (record { place = s.place; depth = s.depth - 1; nodes = s.nodes }) x p 0 h r w
@@ -136,7 +136,7 @@ module _ (bs m m₁ : List ℕ) (count : ℕ) (s : Spot) (i : ℕ) (f : Frame) (
   pub end_close : (x : TermNode) (c : ℕ) (r : Turn) → Closing m m₁ (record { place = s.place; depth = s.depth - 1; nodes = s.nodes }) x false r (sees c (toks bs s.place)) →
       ((a : Term) → Tree bs m s.nodes i a → (b : Begun) → FrameSays bs m s.nodes f b →
       (t : Term) × (Made m m₁ s.nodes x false → Tree bs m₁ (s.nodes + 1) s.nodes t) × ((fs : List Begun) → past c (toks bs s.place) (λ us. behind (fuel bs) fs 8 t us) ≡ resume (fuel bs) (b ∷ fs) a (toks bs s.place))) →
-      Goes bs m m₁ count s.nodes (effort count s + 3) (Ended bs m s i) r
+      Pays bs m m₁ count s.nodes (effort count s + 3) (Ended bs m s i) r
   end_close x c r w j =
       let d = o.deep in
       close_goes bs m m₁ count (effort count s + 3) (Ended bs m s i) (record { place = s.place; depth = s.depth - 1; nodes = s.nodes }) x false c r w
@@ -151,7 +151,7 @@ module _ (bs m m₁ : List ℕ) (count : ℕ) (s : Spot) (i : ℕ) (f : Frame) (
   pub end_part : (f₁ : Frame) (r : Turn) → Parting m m₁ (record { place = s.place; depth = s.depth - 1; nodes = s.nodes }) f₁ r (sees 44 (toks bs s.place)) →
       ((a : Term) → Tree bs m s.nodes i a → (b : Begun) → FrameSays bs m s.nodes f b →
       (b₁ : Begun) × FrameSays bs m s.nodes f₁ b₁ × ((fs : List Begun) → past 44 (toks bs s.place) (λ us. before (fuel bs) (b₁ ∷ fs) us) ≡ resume (fuel bs) (b ∷ fs) a (toks bs s.place))) →
-      Goes bs m m₁ count s.nodes (effort count s + 3) (Ended bs m s i) r
+      Pays bs m m₁ count s.nodes (effort count s + 3) (Ended bs m s i) r
   end_part f₁ r w j =
       let d = o.deep in
       part_goes bs m m₁ count (effort count s + 3) (Ended bs m s i) (record { place = s.place; depth = s.depth - 1; nodes = s.nodes }) f₁ r w

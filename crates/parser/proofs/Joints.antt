@@ -13,7 +13,7 @@ use Rattle.parser.specs.declared.frames.Turn.{Turn}
 use Rattle.parser.specs.declared.frames.Turn.TheVariants.{Failed}
 use Rattle.parser.specs.Nodes.{Tree, operator_number, a_place, term_of}
 use Rattle.parser.specs.Levels.{Enough, level_of, tests, more}
-use Rattle.parser.specs.Frames.{Begun, in_bin, in_set, low, before, behind, FrameSays, Behind, Ended, Room, effort, Goes, Pushed, Grown}
+use Rattle.parser.specs.Frames.{Begun, in_bin, in_set, low, before, behind, FrameSays, Behind, Ended, Room, effort, Pays, Pushed, Grown}
 use Rattle.lexer.specs.Places.{fuel, toks}
 use Rattle.parser.specs.Precedence.{level_at, operator_at, low_at, Binds}
 use Rattle.lexer.proofs.Picks.{picked, left_out}
@@ -59,7 +59,7 @@ module _ (bs m m₁ : List ℕ) (count : ℕ) (s : Spot) (i h l : ℕ) (t : Toke
   push_room k q = record { within = q; few = room.few; frames = omega (arith, room.frames); low = room.low; grown = omega arith; nodes = omega (arith, room.nodes) }
 
   pub bind_set : (f : Frame) (r : Turn) → Pushed m m₁ s f 1 r → s.place + 1 ≤ count → l ≡ 1 → ((a : Term) → Tree bs m s.nodes i a → FrameSays bs m s.nodes f (in_set a)) →
-      Goes bs m m₁ count s.nodes (effort count s + 3) (Behind bs m s i h) r
+      Pays bs m m₁ count s.nodes (effort count s + 3) (Behind bs m s i h) r
   bind_set f r w q e x =
       pushed_goes bs m m₁ count (effort count s + 3) (Behind bs m s i h) s f 1 r w (push_room 1 q) (omega arith) (λ g y.
       let z = bound_here bs m s i h l t g b y in (
@@ -71,7 +71,7 @@ module _ (bs m m₁ : List ℕ) (count : ℕ) (s : Spot) (i h l : ℕ) (t : Toke
       ))
 
   pub bind_join : (f : Frame) (r : Turn) → Pushed m m₁ s f 0 r → l ≡ 6 → ((a : Term) → Tree bs m s.nodes i a → FrameSays bs m s.nodes f (in_bin 5 11 a)) →
-      Goes bs m m₁ count s.nodes (effort count s + 3) (Behind bs m s i h) r
+      Pays bs m m₁ count s.nodes (effort count s + 3) (Behind bs m s i h) r
   bind_join f r w e x =
       pushed_goes bs m m₁ count (effort count s + 3) (Behind bs m s i h) s f 0 r w (push_room 0 (omega (arith, room.within))) (omega arith) (λ g y.
       let z = bound_here bs m s i h l t g b y in
@@ -85,7 +85,7 @@ module _ (bs m m₁ : List ℕ) (count : ℕ) (s : Spot) (i h l : ℕ) (t : Toke
 
   pub bind_operator : (f : Frame) (r : Turn) → Pushed m m₁ s f 1 r → s.place + 1 ≤ count → (l ≡ 1 → ⊥) → (l ≡ 4 → ⊥) → (l ≡ 6 → ⊥) →
       ((k : ℕ) (a : Term) → l ≡ suc k → k ≤ 7 → Tree bs m s.nodes i a → FrameSays bs m s.nodes f (in_bin k (operator_number (operator_at t)) a)) →
-      Goes bs m m₁ count s.nodes (effort count s + 3) (Behind bs m s i h) r
+      Pays bs m m₁ count s.nodes (effort count s + 3) (Behind bs m s i h) r
   bind_operator f r w q n₁ n₄ n₆ x =
       pushed_goes bs m m₁ count (effort count s + 3) (Behind bs m s i h) s f 1 r w (push_room 1 q) (omega arith) (λ g y.
       let z = bound_here bs m s i h l t g b y in
@@ -103,7 +103,7 @@ module _ (bs m m₁ : List ℕ) (count : ℕ) (s : Spot) (i h l : ℕ) (t : Toke
   pub bind_once : {A : Type 0} (x : TermNode) (p : Bool) (r : Turn) (u : A) (f : Term → A → Term) (get : List Program.Token → Reads A) → Grown m m₁ s x p 2 3 r → s.place + 2 ≤ count → l ≡ 4 →
       ((a : Term) → Tree bs m s.nodes i a → Tree bs m₁ (s.nodes + 1) s.nodes (f a u)) →
       ((a : Term) → level_of a (toks bs s.place) ≡ 4 → more (fuel bs) 3 a (toks bs s.place) ≡ with_got (get (toks bs (s.place + 1))) (λ v ws. got (f a v) ws)) →
-      get (toks bs (s.place + 1)) ≡ got u (toks bs (s.place + 2)) → Goes bs m m₁ count s.nodes (effort count s + 3) (Behind bs m s i h) r
+      get (toks bs (s.place + 1)) ≡ got u (toks bs (s.place + 2)) → Pays bs m m₁ count s.nodes (effort count s + 3) (Behind bs m s i h) r
   bind_once x p r u f get w q e tr mo gt =
       grown_goes bs m m₁ count (effort count s + 3) (Behind bs m s i h) s x p 2 3 r w (omega arith)
       (record { within = q; few = room.few; frames = omega (arith, room.frames); low = room.low; grown = omega arith; nodes = omega (arith, room.nodes) }) (omega arith)
@@ -119,7 +119,7 @@ module _ (bs m m₁ : List ℕ) (count : ℕ) (s : Spot) (i h l : ℕ) (t : Toke
 
   pub bind_none : {A : Type 0} (f : Term → A → Term) (get : List Program.Token → Reads A) → l ≡ 4 →
       ((a : Term) → level_of a (toks bs s.place) ≡ 4 → more (fuel bs) 3 a (toks bs s.place) ≡ with_got (get (toks bs (s.place + 1))) (λ v ws. got (f a v) ws)) →
-      get (toks bs (s.place + 1)) ≡ none → Goes bs m m count s.nodes (effort count s + 3) (Behind bs m s i h) Failed
+      get (toks bs (s.place + 1)) ≡ none → Pays bs m m count s.nodes (effort count s + 3) (Behind bs m s i h) Failed
   bind_none f get e mo gt =
       failed_goes bs m count s.nodes (effort count s + 3) (Behind bs m s i h) (λ g y.
       let z = bound_here bs m s i h l t g b y in
@@ -131,7 +131,7 @@ pub bind_once_more : {A : Type 0} (bs m m₁ m₂ : List ℕ) (count : ℕ) (s :
     ((j : ℕ) → (j ≡ s.nodes → ⊥) → cell m₁ j ≡ cell m j) → Grown m₁ m₂ (record { place = s.place; depth = s.depth; nodes = s.nodes + 1 }) x p 2 3 r → s.place + 2 ≤ count → l ≡ 4 →
     ((a : Term) → Tree bs m s.nodes i a → Tree bs m₂ (s.nodes + 1 + 1) (s.nodes + 1) (f a u)) →
     ((a : Term) → level_of a (toks bs s.place) ≡ 4 → more (fuel bs) 3 a (toks bs s.place) ≡ with_got (get (toks bs (s.place + 1))) (λ v ws. got (f a v) ws)) →
-    get (toks bs (s.place + 1)) ≡ got u (toks bs (s.place + 2)) → Goes bs m m₂ count s.nodes (effort count s + 3) (Behind bs m s i h) r
+    get (toks bs (s.place + 1)) ≡ got u (toks bs (s.place + 2)) → Pays bs m m₂ count s.nodes (effort count s + 3) (Behind bs m s i h) r
 bind_once_more bs m m₁ m₂ count s i h l t room b x p r u f get o w q e tr mo gt =
     let s₁ : Spot = record { place = s.place; depth = s.depth; nodes = s.nodes + 1 } in
     goes_after bs m m₁ m₂ count s.nodes (s.nodes + 1) (effort count s + 3) (effort count s + 1) (Behind bs m s i h) (Behind bs m s i h) r (omega arith) room.low (omega arith) (λ j a c. o j (λ z. omega arith)) (λ g y. y)

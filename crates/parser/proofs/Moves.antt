@@ -19,7 +19,7 @@ use Rattle.parser.specs.declared.frames.Turn.TheVariants.{Operand, After, Done, 
 use Rattle.parser.specs.Nodes.{term_of, bit, operator_number, prefix_number, At, ListAt, Tree, Chain, TermsAt, Made, Listed, a_place}
 use Rattle.lexer.specs.Places.{Named, QuotedAt, PatternAt, fuel, toks}
 use Rattle.parser.specs.Levels.{Enough}
-use Rattle.parser.specs.Frames.{Begun, joined_terms, low, before, behind, FrameSays, Stack, frame_of, Room, Roomy, effort, Falls, Spends, Goes, Pushed, Grown, frame_low}
+use Rattle.parser.specs.Frames.{Begun, joined_terms, low, before, behind, FrameSays, Stack, frame_of, Room, Roomy, effort, Falls, Spends, Pays, Pushed, Grown, frame_low}
 use Rattle.parser.proofs.Keeping.{tree_kept, terms_kept, stack_kept, top_push}
 
 -- TOKENS
@@ -66,59 +66,66 @@ low_fits bs m n (suc d) (f ∷ fs) x = let y = frame_low_is bs m n (frame_of (ce
 pub nothing_written : (n : ℕ) (m : List ℕ) → Kept 0 n m m
 nothing_written n m j a b = refl
 
-pub failed_goes : (bs m : List ℕ) (count n e : ℕ) (P : Reads Term → Type 0) → ((g : Reads Term) → P g → none ≡ g) → Goes bs m m count n e P Failed
-failed_goes bs m count n e P h = record { kept = nothing_written n m; room = tt; falls = tt; spends = tt; meets = h }
+pub failed_goes : (bs m : List ℕ) (count n e : ℕ) (P : Reads Term → Type 0) → ((g : Reads Term) → P g → none ≡ g) → Pays bs m m count n e P Failed
+failed_goes bs m count n e P h = record { goes = record { kept = nothing_written n m; room = tt; falls = tt; meets = h }; spends = tt }
 
 pub pushed_goes : (bs m m₁ : List ℕ) (count e : ℕ) (P : Reads Term → Type 0) (s : Spot) (f : Frame) (k : ℕ) (r : Turn) → Pushed m m₁ s f k r →
     Room count s.nodes 0 (record { place = s.place + k; depth = s.depth + 1; nodes = s.nodes }) → effort count (record { place = s.place + k; depth = s.depth + 1; nodes = s.nodes }) < e →
     ((g : Reads Term) → P g → (fs : List Begun) × (b : Begun) × Stack bs m s.nodes s.depth fs × FrameSays bs m s.nodes f b × (before (fuel bs) (b ∷ fs) (toks bs (s.place + k)) ≡ g)) →
-    Goes bs m m₁ count s.nodes e P r
+    Pays bs m m₁ count s.nodes e P r
 pushed_goes bs m m₁ count e P s f k r w room falls h =
-    subst (λ t. Goes bs m m₁ count s.nodes e P t) (sym w.is)
+    subst (λ t. Pays bs m m₁ count s.nodes e P t) (sym w.is)
     (record {
-      kept = λ j a b. w.others j (λ z. omega (arith, room.nodes, room.within, room.few));
-      room = room;
-      falls = falls;
+      goes = record {
+        kept = λ j a b. w.others j (λ z. omega (arith, room.nodes, room.within, room.few));
+        room = room;
+        falls = falls;
+        meets = λ g p.
+            let y = h g p in
+            record { begun = y.1 ∷ y.0; stack = top_push bs m m₁ s.nodes s.depth f y.1 y.0 w.here w.others (omega (arith, room.nodes, room.within, room.few)) y.3 y.2; means = y.4 };
+      };
       spends = omega (arith, falls);
-      meets = λ g p.
-          let y = h g p in
-          record { begun = y.1 ∷ y.0; stack = top_push bs m m₁ s.nodes s.depth f y.1 y.0 w.here w.others (omega (arith, room.nodes, room.within, room.few)) y.3 y.2; means = y.4 };
     })
 
 -- a node was written; only the state may say that the level is at most 8
 pub grown_goes_high : (bs m m₁ : List ℕ) (count e : ℕ) (P : Reads Term → Type 0) (s : Spot) (x : TermNode) (b : Bool) (k h : ℕ) (r : Turn) → Grown m m₁ s x b k h r →
     Room count s.nodes 1 (record { place = s.place + k; depth = s.depth; nodes = s.nodes + 1 }) → effort count (record { place = s.place + k; depth = s.depth; nodes = s.nodes + 1 }) + 3 < e →
     ((g : Reads Term) → P g → (fs : List Begun) × (a : Term) × Stack bs m s.nodes s.depth fs × Tree bs m₁ (s.nodes + 1) s.nodes a × (h ≤ 8) × (behind (fuel bs) fs h a (toks bs (s.place + k)) ≡ g)) →
-    Goes bs m m₁ count s.nodes e P r
+    Pays bs m m₁ count s.nodes e P r
 grown_goes_high bs m m₁ count e P s x b k h r w room falls y =
-    subst (λ t. Goes bs m m₁ count s.nodes e P t) (sym w.is)
+    subst (λ t. Pays bs m m₁ count s.nodes e P t) (sym w.is)
     (record {
-      kept = λ j p q. w.made.others j (λ z. omega arith);
-      room = room;
-      falls = falls;
+      goes = record {
+        kept = λ j p q. w.made.others j (λ z. omega arith);
+        room = room;
+        falls = falls;
+        meets = λ g p.
+            let z = y g p in
+            record {
+              begun = z.0;
+              operand = z.1;
+              stack = stack_kept bs m m₁ s.nodes (s.nodes + 1) (λ j p q. w.made.others j (λ z. omega arith)) (omega arith) s.depth z.0 (λ i q. w.made.others (21120 + i) (λ z. omega (arith, room.nodes, room.within, room.few))) z.2;
+              tree = z.3;
+              high = z.4;
+              means = z.5;
+            };
+      };
       spends = omega (arith, falls);
-      meets = λ g p.
-          let z = y g p in
-          record {
-            begun = z.0;
-            operand = z.1;
-            stack = stack_kept bs m m₁ s.nodes (s.nodes + 1) (λ j p q. w.made.others j (λ z. omega arith)) (omega arith) s.depth z.0 (λ i q. w.made.others (21120 + i) (λ z. omega (arith, room.nodes, room.within, room.few))) z.2;
-            tree = z.3;
-            high = z.4;
-            means = z.5;
-          };
     })
 
 pub grown_goes : (bs m m₁ : List ℕ) (count e : ℕ) (P : Reads Term → Type 0) (s : Spot) (x : TermNode) (b : Bool) (k h : ℕ) (r : Turn) → Grown m m₁ s x b k h r → h ≤ 8 →
     Room count s.nodes 1 (record { place = s.place + k; depth = s.depth; nodes = s.nodes + 1 }) → effort count (record { place = s.place + k; depth = s.depth; nodes = s.nodes + 1 }) + 3 < e →
     ((g : Reads Term) → P g → (fs : List Begun) × (a : Term) × Stack bs m s.nodes s.depth fs × Tree bs m₁ (s.nodes + 1) s.nodes a × (behind (fuel bs) fs h a (toks bs (s.place + k)) ≡ g)) →
-    Goes bs m m₁ count s.nodes e P r
+    Pays bs m m₁ count s.nodes e P r
 grown_goes bs m m₁ count e P s x b k h r w high room falls y = grown_goes_high bs m m₁ count e P s x b k h r w room falls (λ g p. let z = y g p in (z.0, z.1, z.2, z.3, high, z.4))
 
 -- after something else was written
-pub goes_after : (bs m m₁ m₂ : List ℕ) (count n n₁ e e₁ : ℕ) (P Q : Reads Term → Type 0) (r : Turn) → n ≤ n₁ → 8448 ≤ n → 2 * n₁ + e₁ ≤ 2 * n + e → Kept 0 n m m₁ → ((g : Reads Term) → P g → Q g) → Goes bs m₁ m₂ count n₁ e₁ Q r → Goes bs m m₂ count n e P r
+pub goes_after : (bs m m₁ m₂ : List ℕ) (count n n₁ e e₁ : ℕ) (P Q : Reads Term → Type 0) (r : Turn) → n ≤ n₁ → 8448 ≤ n → 2 * n₁ + e₁ ≤ 2 * n + e → Kept 0 n m m₁ → ((g : Reads Term) → P g → Q g) → Pays bs m₁ m₂ count n₁ e₁ Q r → Pays bs m m₂ count n e P r
 goes_after bs m m₁ m₂ count n n₁ e e₁ P Q r l low paid k h x =
-    record { kept = λ j a b. x.kept j a (omega arith) ∙ k j a b; room = less r x.room; falls = falls r x.falls; spends = spends r x.spends; meets = λ g p. x.meets g (h g p) }
+    record {
+      goes = record { kept = λ j a b. x.goes.kept j a (omega arith) ∙ k j a b; room = less r x.goes.room; falls = falls r x.goes.falls; meets = λ g p. x.goes.meets g (h g p) };
+      spends = spends r x.spends;
+    }
   where
     falls : (t : Turn) → Falls count e₁ t → Falls count e t
     falls (Operand s) y = omega arith

@@ -3,7 +3,7 @@ use Rattle.std.proofs.Common.{◌≡◌, ℕ, zero, suc, ◌+◌, ◌-◌, ◌*�
 use Rattle.language.specs.Program
 use Rattle.language.specs.Program.{Term, term, got, Reads, cut_up}
 use Rattle.lexer.specs.Memory.{Kept}
-use Rattle.parser.specs.Frames.{Stack, resume, Met, Room, Roomy, Falls, Spends, Goes}
+use Rattle.parser.specs.Frames.{Stack, resume, Met, Room, Roomy, Falls, Spends, Pays}
 use Rattle.lexer.specs.Places.{fuel, toks, Ready}
 use Rattle.parser.specs.Parsing.{Start, TermGot, left}
 use Rattle.parser.specs.declared.frames.Spot.{Spot}
@@ -51,14 +51,14 @@ spends_on count n n₁ e b (Done s i) l x = omega arith
 spends_on count n n₁ e b Failed l x = tt
 
 pub far_on : (bs m₀ m m₁ : List ℕ) (count place nodes extra e : ℕ) (s : Spot) (t r : Turn) (P : Reads Term → Type 0) → length m₁ ≡ length m → count ≤ 4096 → Room count nodes extra s → ((g : Reads Term) → Met bs m t g → P g) →
-    2 * s.nodes + e ≤ 2 * nodes + 6 * (count - place) + 1 → Goes bs m m₁ count s.nodes e P r → Far bs m₀ m count place nodes t → Far bs m₀ m₁ count place nodes r
+    2 * s.nodes + e ≤ 2 * nodes + 6 * (count - place) + 1 → Pays bs m m₁ count s.nodes e P r → Far bs m₀ m count place nodes t → Far bs m₀ m₁ count place nodes r
 far_on bs m₀ m m₁ count place nodes extra e s t r P l few room h paid g f =
     record {
-      ready = ready_kept bs m m₁ count nodes (omega (arith, few, room.low)) l (λ j a b. g.kept j a (omega (arith, room.grown))) f.ready;
-      kept = λ j a b. g.kept j a (omega (arith, room.grown)) ∙ f.kept j a b;
-      room = less_room count nodes s.nodes r room.grown room.low g.room;
+      ready = ready_kept bs m m₁ count nodes (omega (arith, few, room.low)) l (λ j a b. g.goes.kept j a (omega (arith, room.grown))) f.ready;
+      kept = λ j a b. g.goes.kept j a (omega (arith, room.grown)) ∙ f.kept j a b;
+      room = less_room count nodes s.nodes r room.grown room.low g.goes.room;
       spends = spends_on count nodes s.nodes e (count - place) r paid g.spends;
-      meets = g.meets (term (fuel bs) (toks bs place)) (h (term (fuel bs) (toks bs place)) f.meets);
+      meets = g.goes.meets (term (fuel bs) (toks bs place)) (h (term (fuel bs) (toks bs place)) f.meets);
     }
 
 pub falls_left : (count e : ℕ) (r : Turn) → Falls count e r → left count r < e + 1
@@ -102,6 +102,11 @@ far_done bs m₀ m count place nodes s i f =
         within = f.room.within;
         grown = f.room.grown;
         room = omega (arith, f.room.nodes);
-        cost = omega (arith, f.room.within, f.spends);
       };
     }
+
+-- and its nodes are paid for
+pub far_paid : (bs m₀ m : List ℕ) (count place nodes : ℕ) (s : Spot) (i : ℕ) → Far bs m₀ m count place nodes (Done s i) → s.nodes + 1 + 3 * place ≤ nodes + 3 * s.place
+far_paid bs m₀ m count place nodes s i f =
+    let on : place < s.place = goes_on bs place s.place f.meets.operand (term (fuel bs) (toks bs place)) (WTerm (fuel bs) (toks bs place)) (sym f.meets.means) in
+    omega (arith, f.room.within, f.spends)

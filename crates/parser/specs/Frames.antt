@@ -199,14 +199,17 @@ Spends count n e (After s i h) = 2 * s.nodes + effort count s + 2 ≤ 2 * n + e
 Spends count n e (Done s i) = 2 * s.nodes + effort count s + 2 ≤ 2 * n + e
 Spends count n e Failed = Unit {0}
 
--- a turn from where the whole comes to each g of P: nodes below n are kept, there is room, less is left to do, which pays for nodes,
--- and the whole still comes to g
+-- a turn from where the whole comes to each g of P: nodes below n are kept, there is room, less is left to do, and the whole still comes to g
 pub record Goes (bs m m₁ : List ℕ) (count n e : ℕ) (P : Reads Term → Type 0) (r : Turn) : Type 0 where
   pub kept : Kept 0 n m m₁
   pub room : Roomy count n r
   pub falls : Falls count e r
-  pub spends : Spends count n e r
   pub meets : (g : Reads Term) → P g → Met bs m₁ r g
+
+-- such a turn; and what is less to do pays for the nodes that it wrote
+pub record Pays (bs m m₁ : List ℕ) (count n e : ℕ) (P : Reads Term → Type 0) (r : Turn) : Type 0 where
+  pub goes : Goes bs m m₁ count n e P r
+  pub spends : Spends count n e r
 
 -- a frame was pushed, and nothing else written
 pub record Pushed (m m₁ : List ℕ) (s : Spot) (f : Frame) (eaten : ℕ) (r : Turn) : Type 0 where

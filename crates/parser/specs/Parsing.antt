@@ -22,7 +22,11 @@ pub record Onward (count place nodes : ℕ) (r : Parsed) : Type 0 where
   pub within : r.place ≤ count
   pub grown : nodes ≤ r.nodes
   pub room : r.nodes + 1 ≤ 8448 + 3 * r.place
-  pub cost : r.nodes + 1 + 3 * place ≤ nodes + 3 * r.place
+
+-- the nodes that were written are paid for by the expression's own tokens, three for each
+abbrev pub Paid : ℕ → ℕ → Option Parsed → Type 0
+Paid place nodes (Some r) = r.nodes + 1 + 3 * place ≤ nodes + 3 * r.place
+Paid place nodes None = Unit {0}
 
 pub record TermGot (bs m₁ : List ℕ) (count place nodes : ℕ) (r : Parsed) : Type 0 where
   pub operand : Term

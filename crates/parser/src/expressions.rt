@@ -5,11 +5,11 @@ ghost use Rattle.lexer.specs.Memory.{cell};
 ghost use Rattle.lexer.specs.Marks.{spelled, TokensIn};
 ghost use Rattle.parser.specs.Nodes.{operator_number, prefix_number};
 ghost use Rattle.lexer.specs.Places.{toks, Ready};
-ghost use Rattle.parser.specs.Frames.{Room, Before, Behind, Ended, effort, Goes, Grown, Closing, Parting, OnTop};
+ghost use Rattle.parser.specs.Frames.{Room, Before, Behind, Ended, effort, Grown, Closing, Parting, OnTop, Pays};
 ghost use Rattle.parser.specs.declared.frames.Frame.TheVariants.{Group, SplitFirst, Arguments, SwapSecond};
 ghost use Rattle.language.specs.Text.{pick};
 ghost use Rattle.lexer.specs.Ahead.{NameHere, CallHere};
-ghost use Rattle.parser.specs.Parsing.{Start, TermRead};
+ghost use Rattle.parser.specs.Parsing.{Start, TermRead, Paid};
 ghost use Rattle.parser.specs.Precedence.{level_at, operator_at, low_at, Binds};
 
 use crate::frames::{Frame, Spot, Turn, frame_at, push};
@@ -42,7 +42,7 @@ fn make(work: &mut [u64], s: Spot, node: TermNode, plain: bool, eaten: usize, hi
 // An operand that begins with a sign.
 fn begin_sign(text: &[u8], work: &mut [u64], count: usize, s: Spot, d: u8) -> Turn
     requires { (Ready text.now work.old count) × ((Room count s.nodes 0 s) × (toks text.now s.place ≡ sign d ∷ rest (toks text.now s.place))) }
-    ensures { Goes text.now work.old work.new count s.nodes (effort count s) (Before text.now work.old s) result }
+    ensures { Pays text.now work.old work.new count s.nodes (effort count s) (Before text.now work.old s) result }
 {
     match d {
         b'!' => push(work, s, Frame::Prefixed(Prefix::Not), 1),
@@ -56,7 +56,7 @@ fn begin_sign(text: &[u8], work: &mut [u64], count: usize, s: Spot, d: u8) -> Tu
 // f( with its arguments, or f() with none.
 fn begin_call(text: &[u8], work: &mut [u64], count: usize, s: Spot, x: Name) -> Turn
     requires { (Ready text.now work.old count) × ((Room count s.nodes 0 s) × (CallHere text.now s.place x)) }
-    ensures { Goes text.now work.old work.new count s.nodes (effort count s) (Before text.now work.old s) result }
+    ensures { Pays text.now work.old work.new count s.nodes (effort count s) (Before text.now work.old s) result }
 {
     put_list(work, s.nodes, ListNode::Empty, true);
     let t = Spot {
@@ -74,7 +74,7 @@ fn begin_call(text: &[u8], work: &mut [u64], count: usize, s: Spot, x: Name) -> 
 // An operand that begins with a name: an item, a call or a variable.
 fn begin_name(text: &[u8], work: &mut [u64], count: usize, s: Spot, x: Name) -> Turn
     requires { (Ready text.now work.old count) × ((Room count s.nodes 0 s) × (NameHere text.now s.place x)) }
-    ensures { Goes text.now work.old work.new count s.nodes (effort count s) (Before text.now work.old s) result }
+    ensures { Pays text.now work.old work.new count s.nodes (effort count s) (Before text.now work.old s) result }
 {
     if is_sign(work, count, s.place + 1, b'[') {
         push(work, s, Frame::Indexing(x), 2)
@@ -88,7 +88,7 @@ fn begin_name(text: &[u8], work: &mut [u64], count: usize, s: Spot, x: Name) -> 
 // swap( with its pattern and the comma behind it.
 fn begin_swap(text: &[u8], work: &mut [u64], count: usize, s: Spot) -> Turn
     requires { (Ready text.now work.old count) × ((Room count s.nodes 0 s) × ((toks text.now s.place ≡ word w_swap ∷ rest (toks text.now s.place)) × (sees 40 (toks text.now (s.place + 1)) ≡ true))) }
-    ensures { Goes text.now work.old work.new count s.nodes (effort count s) (Before text.now work.old s) result }
+    ensures { Pays text.now work.old work.new count s.nodes (effort count s) (Before text.now work.old s) result }
 {
     match pattern_at(text, work, count, s.place + 2) {
         Some(q) => {
@@ -105,7 +105,7 @@ fn begin_swap(text: &[u8], work: &mut [u64], count: usize, s: Spot) -> Turn
 // An operand that begins with a function that is built in; other reserved words begin none.
 fn begin_word(text: &[u8], work: &mut [u64], count: usize, s: Spot, k: Keyword) -> Turn
     requires { (Ready text.now work.old count) × ((Room count s.nodes 0 s) × (toks text.now s.place ≡ word (spelled k) ∷ rest (toks text.now s.place))) }
-    ensures { Goes text.now work.old work.new count s.nodes (effort count s) (Before text.now work.old s) result }
+    ensures { Pays text.now work.old work.new count s.nodes (effort count s) (Before text.now work.old s) result }
 {
     if !is_sign(work, count, s.place + 1, b'(') {
         return Turn::Failed;
@@ -124,7 +124,7 @@ fn begin_word(text: &[u8], work: &mut [u64], count: usize, s: Spot, k: Keyword) 
 // Begins to read an operand.
 fn begin(text: &[u8], work: &mut [u64], count: usize, s: Spot) -> Turn
     requires { (Ready text.now work.old count) × (Room count s.nodes 0 s) }
-    ensures { Goes text.now work.old work.new count s.nodes (effort count s) (Before text.now work.old s) result }
+    ensures { Pays text.now work.old work.new count s.nodes (effort count s) (Before text.now work.old s) result }
 {
     match peek(work, count, s.place) {
         Token::Number(n) => make(work, s, TermNode::Number(n), true, 1, TIGHTEST),
@@ -219,7 +219,7 @@ fn bind_like(
     level: u64,
 ) -> Turn
     requires { (Ready text.now work.old count) × ((Room count s.nodes 1 s) × ((Binds text.now work.old s node high token level) × ((level ≡ 4) × (sees 126 (toks text.now s.place) ≡ true)))) }
-    ensures { Goes text.now work.old work.new count s.nodes (effort count s + 3) (Behind text.now work.old s node high) result }
+    ensures { Pays text.now work.old work.new count s.nodes (effort count s + 3) (Behind text.now work.old s node high) result }
 {
     match pattern_at(text, work, count, s.place + 1) {
         Some(q) => make(work, s, TermNode::Like(node, q), false, 2, 3),
@@ -239,7 +239,7 @@ fn bind_unlike(
     level: u64,
 ) -> Turn
     requires { (Ready text.now work.old count) × ((Room count s.nodes 1 s) × ((Binds text.now work.old s node high token level) × ((level ≡ 4) × ((sees 126 (toks text.now s.place) ≡ false) × (sees 7 (toks text.now s.place) ≡ true))))) }
-    ensures { Goes text.now work.old work.new count s.nodes (effort count s + 3) (Behind text.now work.old s node high) result }
+    ensures { Pays text.now work.old work.new count s.nodes (effort count s + 3) (Behind text.now work.old s node high) result }
 {
     match pattern_at(text, work, count, s.place + 1) {
         Some(q) => {
@@ -267,7 +267,7 @@ fn bind_in(
     level: u64,
 ) -> Turn
     requires { (Ready text.now work.old count) × ((Room count s.nodes 1 s) × ((Binds text.now work.old s node high token level) × ((level ≡ 4) × ((sees 126 (toks text.now s.place) ≡ false) × (sees 7 (toks text.now s.place) ≡ false))))) }
-    ensures { Goes text.now work.old work.new count s.nodes (effort count s + 3) (Behind text.now work.old s node high) result }
+    ensures { Pays text.now work.old work.new count s.nodes (effort count s + 3) (Behind text.now work.old s node high) result }
 {
     match name_at(work, count, s.place + 1) {
         Some(x) => make(work, s, TermNode::There(node, x), false, 2, 3),
@@ -287,7 +287,7 @@ fn bind(
     level: u64,
 ) -> Turn
     requires { (Ready text.now work.old count) × ((Room count s.nodes 1 s) × (Binds text.now work.old s node high token level)) }
-    ensures { Goes text.now work.old work.new count s.nodes (effort count s + 3) (Behind text.now work.old s node high) result }
+    ensures { Pays text.now work.old work.new count s.nodes (effort count s + 3) (Behind text.now work.old s node high) result }
 {
     match level {
         1 => push(work, s, Frame::Assigning(node), 1),
@@ -374,7 +374,7 @@ fn prefix_plain(work: &[u64], p: Prefix, a: usize) -> bool
 // Ends a bracket around an expression.
 fn finish_group(text: &[u8], work: &mut [u64], count: usize, s: Spot, node: usize) -> Turn
     requires { (Ready text.now work.old count) × ((Room count s.nodes 1 s) × (OnTop work.old s Group)) }
-    ensures { Goes text.now work.old work.new count s.nodes (effort count s + 3) (Ended text.now work.old s node) result }
+    ensures { Pays text.now work.old work.new count s.nodes (effort count s + 3) (Ended text.now work.old s node) result }
 {
     if !is_sign(work, count, s.place, b')') {
         return Turn::Failed;
@@ -393,7 +393,7 @@ fn finish_group(text: &[u8], work: &mut [u64], count: usize, s: Spot, node: usiz
 // Ends the first operand of split: the table's name, the pattern and the bracket follow.
 fn finish_split(text: &[u8], work: &mut [u64], count: usize, s: Spot, node: usize) -> Turn
     requires { (Ready text.now work.old count) × ((Room count s.nodes 1 s) × (OnTop work.old s SplitFirst)) }
-    ensures { Goes text.now work.old work.new count s.nodes (effort count s + 3) (Ended text.now work.old s node) result }
+    ensures { Pays text.now work.old work.new count s.nodes (effort count s + 3) (Ended text.now work.old s node) result }
 {
     if !is_sign(work, count, s.place, b',') {
         return Turn::Failed;
@@ -426,7 +426,7 @@ fn finish_argument(
     list: usize,
 ) -> Turn
     requires { (Ready text.now work.old count) × ((Room count s.nodes 1 s) × (OnTop work.old s (Arguments x list))) }
-    ensures { Goes text.now work.old work.new count s.nodes (effort count s + 3) (Ended text.now work.old s node) result }
+    ensures { Pays text.now work.old work.new count s.nodes (effort count s + 3) (Ended text.now work.old s node) result }
 {
     let plain = both_plain(work, list, node);
     put_list(work, s.nodes, ListNode::More(list, node), plain);
@@ -453,7 +453,7 @@ fn finish_swap(
     by: usize,
 ) -> Turn
     requires { (Ready text.now work.old count) × ((Room count s.nodes 1 s) × (OnTop work.old s (SwapSecond q by))) }
-    ensures { Goes text.now work.old work.new count s.nodes (effort count s + 3) (Ended text.now work.old s node) result }
+    ensures { Pays text.now work.old work.new count s.nodes (effort count s + 3) (Ended text.now work.old s node) result }
 {
     if !is_place(work, node) {
         return Turn::Failed;
@@ -469,7 +469,7 @@ fn finish_swap(
 // Ends what was begun last, with its operand.
 fn finish(text: &[u8], work: &mut [u64], count: usize, s: Spot, node: usize) -> Turn
     requires { (Ready text.now work.old count) × (Room count s.nodes 1 s) }
-    ensures { Goes text.now work.old work.new count s.nodes (effort count s + 3) (Ended text.now work.old s node) result }
+    ensures { Pays text.now work.old work.new count s.nodes (effort count s + 3) (Ended text.now work.old s node) result }
 {
     if s.depth == 0 {
         return Turn::Done(s, node);
@@ -528,7 +528,7 @@ fn finish(text: &[u8], work: &mut [u64], count: usize, s: Spot, node: usize) -> 
 // Goes on behind an operand.
 fn go_on(text: &[u8], work: &mut [u64], count: usize, s: Spot, node: usize, high: u64) -> Turn
     requires { (Ready text.now work.old count) × (Room count s.nodes 1 s) }
-    ensures { Goes text.now work.old work.new count s.nodes (effort count s + 3) (Behind text.now work.old s node high) result }
+    ensures { Pays text.now work.old work.new count s.nodes (effort count s + 3) (Behind text.now work.old s node high) result }
 {
     let token = peek(work, count, s.place);
     let here = level(token, is_place(work, node));
@@ -556,7 +556,8 @@ pub fn read_term(
     nodes: usize,
 ) -> Option<Parsed>
     requires { (Ready text.now work.old count) × (Start count place nodes) }
-    ensures { TermRead text.now work.old work.new count place nodes result }
+    ensures read { TermRead text.now work.old work.new count place nodes result }
+    ensures paid { Paid place nodes result }
 {
     let mut turn = Turn::Operand(Spot {
         place,

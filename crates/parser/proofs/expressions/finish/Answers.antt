@@ -20,11 +20,13 @@ returns-then-s-eq0 c =
     let n = s.nodes in
     let room = c.requires.1 in
     record {
-      kept = nothing_written n m;
-      room = record { within = room.within; few = room.few; frames = room.frames; low = room.low; grown = omega arith; nodes = room.nodes };
-      falls = tt;
       spends = omega arith;
-      meets = λ g y. record { operand = y.operand; tree = y.tree; means = ap (λ fs. resume (fuel bs) fs y.operand (toks bs s.place)) (sym (bottom bs m n s.depth y.begun c.if-s-eq0.true y.stack)) ∙ y.means };
+      goes = record {
+        kept = nothing_written n m;
+        room = record { within = room.within; few = room.few; frames = room.frames; low = room.low; grown = omega arith; nodes = room.nodes };
+        falls = tt;
+        meets = λ g y. record { operand = y.operand; tree = y.tree; means = ap (λ fs. resume (fuel bs) fs y.operand (toks bs s.place)) (sym (bottom bs m n s.depth y.begun c.if-s-eq0.true y.stack)) ∙ y.means };
+      };
     }
 
 pub returns-in-Infix : goal.returns-in-Infix

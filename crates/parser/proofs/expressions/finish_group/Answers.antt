@@ -33,18 +33,20 @@ returns c =
     let t : sees 41 (toks bs p) ≡ true = sym (c.if-not-is_sign.ensures bs k) in
     let a : p < c.args.count = sees_ahead bs m c.args.count p 41 k t in
     record {
-      kept = nothing_written n m;
-      room = record { within = omega arith; few = room.few; frames = omega (arith, room.frames); low = room.low; grown = omega arith; nodes = omega (arith, room.nodes) };
-      falls = omega arith;
       spends = omega arith;
-      meets = λ g y.
-          let v = topmost bs m s c.args.node Group g o y in
-          record {
-            begun = v.others;
-            operand = y.operand;
-            stack = v.stack;
-            tree = y.tree;
-            high = omega arith;
-            means = ap (λ us. behind (fuel bs) v.others 8 y.operand us) (sym (rest_toks bs p)) ∙ sym (past_is 41 (toks bs p) (λ us. behind (fuel bs) v.others 8 y.operand us) t) ∙ resumed bs m s c.args.node Group g y v in_brackets v.says;
-          };
+      goes = record {
+        kept = nothing_written n m;
+        room = record { within = omega arith; few = room.few; frames = omega (arith, room.frames); low = room.low; grown = omega arith; nodes = omega (arith, room.nodes) };
+        falls = omega arith;
+        meets = λ g y.
+            let v = topmost bs m s c.args.node Group g o y in
+            record {
+              begun = v.others;
+              operand = y.operand;
+              stack = v.stack;
+              tree = y.tree;
+              high = omega arith;
+              means = ap (λ us. behind (fuel bs) v.others 8 y.operand us) (sym (rest_toks bs p)) ∙ sym (past_is 41 (toks bs p) (λ us. behind (fuel bs) v.others 8 y.operand us) t) ∙ resumed bs m s c.args.node Group g y v in_brackets v.says;
+            };
+      };
     }
