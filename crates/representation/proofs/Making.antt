@@ -16,8 +16,8 @@ use Rattle.store.specs.Values.{decoded, held_by, Made, made}
 use Rattle.store.specs.Worth.{meant, Plain}
 use Rattle.store.proofs.Basics.{occ_append, is_same, is_other}
 use Rattle.store.proofs.Coding.{made_short}
-use Rattle.store.proofs.Faces.{faces, changed_same, changed_other}
-use Rattle.store.proofs.Meanings.{value_laws}
+use Rattle.store.proofs.Faces.{faces, new_by_words, changed_same, changed_other}
+use Rattle.store.proofs.Meanings.{value_laws, makes_by_words}
 use Rattle.store.proofs.Reading.{filled}
 use Rattle.regions.specs.Parts.{Parts, with_texts}
 use Rattle.assembly.specs.Assembly.{Pool}
@@ -111,7 +111,7 @@ module _ {π : Pool} {hand : List Value} {ws : List Text.Value} {m : Parts} {n :
       MadeSo H b (made 20480 77822 m.texts b) ⊎ Unmade H b (made 20480 77822 m.texts b)
   makes H b f =
       let hs = holders hand m n (length π) in
-      elim ((value_laws 20480 77822).makes_by_words m.texts hs H.said b H.texts (omega arith) f) [
+      elim (makes_by_words 20480 77822 m.texts hs H.said b H.texts (omega arith) f) [
         | inr z ↦ inr (record { got = z.got; full = z.full; holds = retexts H (made 20480 77822 m.texts b).space H.said z.texts (λ k l. refl) })
         | inl z ↦ inl (record {
           value = z.value;
@@ -139,7 +139,7 @@ module _ {π : Pool} {hand : List Value} {ws : List Text.Value} {m : Parts} {n :
   pub takes_new : (H : Holds π hand ws m n us bs) (size : ℕ) → 9 ≤ size → Taken H size (allocated 20480 77822 m.texts size) ⊎ Untaken H size (allocated 20480 77822 m.texts size)
   takes_new H size l =
       let hs = holders hand m n (length π) in
-      elim ((faces 20480 77822).new_by_words m.texts hs H.said size H.texts (omega arith)) [
+      elim (new_by_words 20480 77822 m.texts hs H.said size H.texts (omega arith)) [
         | inr z ↦ inr (record { got = z.got; full = z.full; holds = retexts H (allocated 20480 77822 m.texts size).space H.said z.texts (λ k l. refl) })
         | inl z ↦
             let h : ℕ = z.handle in

@@ -4,7 +4,7 @@ use Rattle.std.proofs.lemmas.Bool.{cases_lt, cases_eq}
 use Rattle.store.specs.Words.{unpacked, over}
 use Rattle.store.specs.Space.{Space, span, allocated, compacted, raised, lowered, length_of, text_of, written, copied, emptied}
 use Rattle.store.specs.Model.{Cell, occ, on, more, fewer, look, let_go, bytes, held_bytes}
-use Rattle.store.specs.Laws.{Got, Texts, changed, spent, Fresh, NoRoom, spans, Crowded, Interface}
+use Rattle.store.specs.Laws.{Got, Texts, changed, spent, Fresh, NoRoom, spans, NewByWords, Interface}
 use Rattle.store.proofs.Packing.{length_unpacked}
 use Rattle.store.proofs.Moving.{window_below}
 use Rattle.store.proofs.Basics.{is_same, is_other, occ_le}
@@ -80,8 +80,8 @@ module _ (T W : ℕ) where
       let q : span (look g H).size ≡ span (length (text g)) = ap span (e g (omega (arith, is_same g g refl))) in
       omega (arith, q, cells_spans H text gs (λ k l. e k (omega arith)))
 
-  new_by_words : (s : Space) (hs : List ℕ) (text : ℕ → List ℕ) (n : ℕ) → Texts T W s hs text → W ≤ 4 * T →
-      Fresh T W hs text n (allocated T W s n) ⊎ Crowded T W hs text n (allocated T W s n)
+  pub new_by_words : NewByWords T W
+  unfolding NewByWords
   new_by_words s hs text n t r =
       let H : List Cell = t.cells in
       elim (allocated_is T W s H n t.store) [
@@ -173,4 +173,4 @@ module _ (T W : ℕ) where
   same s hs text text' t e = record { cells = t.cells; store = t.store; held = t.held; says = λ k l. t.says k l ∙ e k l }
 
   pub faces : Interface T W
-  faces = record { empty = empty; new = new; new_by_words = new_by_words; hold = hold; release = release; measure = measure; view = view; fill = fill; copy = copy; compact = compact; reorder = reorder; same = same }
+  faces = record { empty = empty; new = new; hold = hold; release = release; measure = measure; view = view; fill = fill; copy = copy; compact = compact; reorder = reorder; same = same }

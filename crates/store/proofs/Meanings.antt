@@ -8,14 +8,14 @@ use Rattle.store.specs.Words.{over}
 use Rattle.store.specs.Short.{short_of}
 use Rattle.store.specs.Space.{Space, Given, handle_of, allocated, written}
 use Rattle.store.specs.Model.{occ}
-use Rattle.store.specs.Laws.{Texts, changed, Fresh, NoRoom, Crowded}
+use Rattle.store.specs.Laws.{Texts, changed, Fresh, NoRoom, Crowded, NewByWords}
 use Rattle.store.specs.Values.{decode, kind_of, payload_of, worth, held_by, kept, let_go, Made, made, filled}
-use Rattle.store.specs.Worth.{meant, Plain, HeldIn, New, NoneNew, NoWords, ValueLaws}
+use Rattle.store.specs.Worth.{meant, Plain, HeldIn, New, NoneNew, NoWords, MakesByWords, ValueLaws}
 use Rattle.store.proofs.Basics.{is_same}
 use Rattle.store.proofs.Reading.{over_whole}
 use Rattle.store.proofs.Shorts.{short_bytes}
 use Rattle.store.proofs.Coding.{decode_none, decode_text, number_back, short_back, made_short, made_long}
-use Rattle.store.proofs.Faces.{faces, changed_same, changed_other}
+use Rattle.store.proofs.Faces.{faces, new_by_words, changed_same, changed_other}
 
 back : (v : Value) → Plain v → decode (kind_of v) (payload_of v) ≡ v
 back Unset p = decode_none 0 0 (inl (omega arith))
@@ -88,12 +88,12 @@ module _ (T W : ℕ) where
       made_by (NoneNew T W hs said bs) s hs said bs t b
       (elim ((faces T W).new s hs said (length bs) t w) [ inl f ↦ inl (long hs said bs g b f) | inr n ↦ inr (none_left hs said bs g n) ])
 
-  makes_by_words : (s : Space) (hs : List ℕ) (said : ℕ → List ℕ) (bs : List ℕ) → Texts T W s hs said → W ≤ 4 * T → ((i : ℕ) → get_or bs i 0 < 256) →
-      New T W hs said bs (made T W s bs) ⊎ NoWords T W hs said bs (made T W s bs)
+  pub makes_by_words : MakesByWords T W
+  unfolding MakesByWords NewByWords
   makes_by_words s hs said bs t w b =
       let g = allocated T W s (length bs) in
       made_by (NoWords T W hs said bs) s hs said bs t b
-      (elim ((faces T W).new_by_words s hs said (length bs) t w) [ inl f ↦ inl (long hs said bs g b f) | inr n ↦ inr (no_words hs said bs g n) ])
+      (elim (new_by_words T W s hs said (length bs) t w) [ inl f ↦ inl (long hs said bs g b f) | inr n ↦ inr (no_words hs said bs g n) ])
 
   pub value_laws : ValueLaws T W
-  value_laws = record { back = back; means = means; keeps = keeps; drops = drops; makes = makes; makes_by_words = makes_by_words }
+  value_laws = record { back = back; means = means; keeps = keeps; drops = drops; makes = makes }

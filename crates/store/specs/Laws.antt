@@ -89,8 +89,6 @@ pub record Interface (T W : ℕ) : Type 0 where
   pub empty : (s : Space) (text : ℕ → List ℕ) → length s.table ≡ T → length s.heap ≡ W → Texts T W (emptied T s) [] text
   pub new : (s : Space) (hs : List ℕ) (text : ℕ → List ℕ) (n : ℕ) → Texts T W s hs text → W ≤ 4 * T →
       Fresh T W hs text n (allocated T W s n) ⊎ NoRoom T W hs text n (allocated T W s n)
-  pub new_by_words : (s : Space) (hs : List ℕ) (text : ℕ → List ℕ) (n : ℕ) → Texts T W s hs text → W ≤ 4 * T →
-      Fresh T W hs text n (allocated T W s n) ⊎ Crowded T W hs text n (allocated T W s n)
   pub hold : (s : Space) (hs : List ℕ) (text : ℕ → List ℕ) (h : ℕ) → Texts T W s hs text → 1 ≤ occ h hs → length hs + 1 < 18446744073709551616 →
       Texts T W (raised W s h) (h ∷ hs) text
   pub release : (s : Space) (hs hs' : List ℕ) (text : ℕ → List ℕ) (h : ℕ) → Texts T W s hs text → ((k : ℕ) → occ k hs ≡ occ k (h ∷ hs')) →
@@ -104,6 +102,11 @@ pub record Interface (T W : ℕ) : Type 0 where
   pub compact : (s : Space) (hs : List ℕ) (text : ℕ → List ℕ) → Texts T W s hs text → Texts T W (compacted T W s) hs text
   pub reorder : (s : Space) (hs hs' : List ℕ) (text : ℕ → List ℕ) → Texts T W s hs text → ((k : ℕ) → occ k hs ≡ occ k hs') → Texts T W s hs' text
   pub same : (s : Space) (hs : List ℕ) (text text' : ℕ → List ℕ) → Texts T W s hs text → ((k : ℕ) → 1 ≤ occ k hs → text k ≡ text' k) → Texts T W s hs text'
+
+-- a new text, or no room for it in words
+unfoldable pub NewByWords : (T W : ℕ) → Type 0
+NewByWords T W = (s : Space) (hs : List ℕ) (text : ℕ → List ℕ) (n : ℕ) → Texts T W s hs text → W ≤ 4 * T →
+    Fresh T W hs text n (allocated T W s n) ⊎ Crowded T W hs text n (allocated T W s n)
 
 -- What is written over a text: all of it; or its front, and then what is behind
 pub record Filled : Type 0 where

@@ -61,5 +61,8 @@ pub record ValueLaws (T W : ℕ) : Type 0 where
       Texts T W (let_go T W s v) hs' said
   pub makes : (s : Space) (hs : List ℕ) (said : ℕ → List ℕ) (bs : List ℕ) → Texts T W s hs said → W ≤ 4 * T → ((i : ℕ) → slice_index bs i < 256) →
       New T W hs said bs (made T W s bs) ⊎ NoneNew T W hs said bs (made T W s bs)
-  pub makes_by_words : (s : Space) (hs : List ℕ) (said : ℕ → List ℕ) (bs : List ℕ) → Texts T W s hs said → W ≤ 4 * T → ((i : ℕ) → slice_index bs i < 256) →
-      New T W hs said bs (made T W s bs) ⊎ NoWords T W hs said bs (made T W s bs)
+
+-- a new value, or no room for its text in words
+unfoldable pub MakesByWords : (T W : ℕ) → Type 0
+MakesByWords T W = (s : Space) (hs : List ℕ) (said : ℕ → List ℕ) (bs : List ℕ) → Texts T W s hs said → W ≤ 4 * T → ((i : ℕ) → slice_index bs i < 256) →
+    New T W hs said bs (made T W s bs) ⊎ NoWords T W hs said bs (made T W s bs)

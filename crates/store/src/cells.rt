@@ -4,7 +4,7 @@ ghost use Rattle.store.specs.declared.cells.Value.TheVariants.{Unset};
 ghost use Rattle.store.specs.Space.{region};
 ghost use Rattle.store.specs.Short.{Read, short_of};
 ghost use Rattle.store.specs.Values.{decode, decoded, saved, kind_of, payload_of, kept, let_go, Made, made};
-ghost use Rattle.store.specs.Worth.{ValueLaws};
+ghost use Rattle.store.specs.Worth.{ValueLaws, MakesByWords};
 
 use crate::bytes::Bytes;
 use crate::short::{Short, low_bytes};
@@ -164,6 +164,11 @@ pub fn new_text<T: Bytes>(texts: &mut [u64], t: &T) -> Option<Value>
         None => None,
     }
 }
+
+// Room for a new value, in words of the texts that are held.
+pub fn value_word_laws_stand()
+    ensures { (T W : ℕ) → MakesByWords T W }
+{}
 
 // The laws of values over a region of texts, whatever its size.
 pub fn value_laws_stand()

@@ -4,7 +4,7 @@ ghost use Rattle.std.specs.Prelude.{◌≡◌, ℕ, ◌+◌, ◌-◌, ◌*◌, �
 ghost use Rattle.std.proofs.Math.Seq.{paste};
 ghost use Rattle.store.specs.Words.{window};
 ghost use Rattle.store.specs.Space.{Given, region, place as «place_in», span, bytes_at, with_top, with_free, with_heap, put_word, put_entry, slid, compacted, taken, tried, allocated, raised, lowered, length_of, text_of, written, copied, emptied};
-ghost use Rattle.store.specs.Laws.{Laws, Interface, Filled};
+ghost use Rattle.store.specs.Laws.{Laws, Interface, Filled, NewByWords};
 
 use crate::bytes::Bytes;
 use crate::packed::{Packed, window_of};
@@ -294,6 +294,11 @@ pub fn copy_text(texts: &mut [u64], h: Handle, at: usize, from: Handle)
         move_bytes(&mut texts[HEAP..TEXTS], begin, to, n);
     }
 }
+
+// Room for a new text, in words of the texts that are held.
+pub fn word_laws_stand()
+    ensures { (T W : ℕ) → NewByWords T W }
+{}
 
 // The laws of such regions, whatever their size.
 pub fn laws_stand()
