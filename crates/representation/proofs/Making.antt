@@ -11,9 +11,9 @@ use Rattle.store.specs.Numbers.{number}
 use Rattle.store.specs.Short.{short_of}
 use Rattle.store.specs.Space.{Space, Given, span, handle_of, allocated, written}
 use Rattle.store.specs.Model.{occ}
-use Rattle.store.specs.Laws.{Texts, changed, spans}
+use Rattle.store.specs.Laws.{Texts, changed, spans, NewByWords}
 use Rattle.store.specs.Values.{decoded, held_by, Made, made}
-use Rattle.store.specs.Worth.{meant, Plain}
+use Rattle.store.specs.Worth.{meant, Plain, MakesByWords}
 use Rattle.store.proofs.Basics.{occ_append, is_same, is_other}
 use Rattle.store.proofs.Coding.{made_short}
 use Rattle.store.proofs.Faces.{faces, new_by_words, changed_same, changed_other}
@@ -109,6 +109,7 @@ module _ {π : Pool} {hand : List Value} {ws : List Text.Value} {m : Parts} {n :
   -- a text of some bytes
   pub makes : (H : Holds π hand ws m n us bs) (b : List ℕ) → ((i : ℕ) → get_or b i 0 < 256) →
       MadeSo H b (made 20480 77822 m.texts b) ⊎ Unmade H b (made 20480 77822 m.texts b)
+  unfolding MakesByWords
   makes H b f =
       let hs = holders hand m n (length π) in
       elim (makes_by_words 20480 77822 m.texts hs H.said b H.texts (omega arith) f) [
@@ -137,6 +138,7 @@ module _ {π : Pool} {hand : List Value} {ws : List Text.Value} {m : Parts} {n :
     pub holds : Holds π hand ws (with_texts m x.space) n us bs
 
   pub takes_new : (H : Holds π hand ws m n us bs) (size : ℕ) → 9 ≤ size → Taken H size (allocated 20480 77822 m.texts size) ⊎ Untaken H size (allocated 20480 77822 m.texts size)
+  unfolding NewByWords
   takes_new H size l =
       let hs = holders hand m n (length π) in
       elim (new_by_words 20480 77822 m.texts hs H.said size H.texts (omega arith)) [
