@@ -4,14 +4,11 @@
 
 use std::process::ExitCode;
 
+const USAGE: &str = "usage: bridge PROGRAM
+       bridge -f PROGRAM-FILE
+Runs a program over lines as they come on standard input.";
+
 fn main(rt: HostRuntime) -> anyhow::Result<ExitCode> {
-    match console::called_with(&rt)? {
-        Some(command) if command.names.is_empty() => console::run(&rt, command),
-        _ => {
-            println!(rt; "usage: bridge PROGRAM")?;
-            println!(rt; "       bridge -f PROGRAM-FILE")?;
-            println!(rt; "Runs a program over lines as they come on standard input.")?;
-            Ok(ExitCode::SUCCESS)
-        }
-    }
+    let called = console::called_with(&rt)?.filter(|command| command.names.is_empty());
+    console::run(&rt, called, USAGE)
 }

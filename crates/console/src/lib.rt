@@ -1,17 +1,16 @@
 // The world outside: pieces come from files or from standard input, rows go to standard output.
 #![tactic(auto)]
 
-ghost use Rattle.std.specs.Prelude.{◌≡◌, ◌≤◌, length, IfOk, string_bytes};
-ghost use Rattle.machine.specs.declared.drive.Piece.TheVariants.{Bytes, Failed};
+ghost use Rattle.std.specs.Prelude.{◌≡◌, length, Some};
 ghost use Rattle.machine.specs.Drive.{Account};
 ghost use Rattle.console.specs.Console.{Few, left_open, Closes, failure, said};
 
-use machine::drive::{Ending, Piece, World, drive};
-use std::alloc::{AllocError, Global};
+use machine::drive::{Failure, World, drive};
+use std::error::Error;
 use std::fs::File;
 use std::io::{Read, Write};
 use std::process::ExitCode;
-use std::{env, fs};
+use std::{env, fmt, fs, vec};
 
 // Where the next bytes come from.
 #[derive(Drop)]
@@ -22,41 +21,45 @@ enum Source {
     Closed,
 }
 
-// What went wrong outside, if anything did.
-#[derive(Clone, Copy)]
-enum Trouble {
-    Nothing,
+// What went wrong outside.
+#[derive(Clone, Copy, Debug, PartialEq, Eq)]
+pub enum Trouble {
     Opening,
     Reading,
     Writing,
 }
 
-impl Trouble {
-    // What is said of it.
-    fn text(self) -> &'static str
-        ensures { result.now ≡ failure self }
-    {
-        match self {
-            Trouble::Nothing => "failed",
+impl fmt::Display for Trouble {
+    ghost output = { λ t. Some (failure t) };
+
+    fn fmt<W: fmt::Write>(&self, f: &mut fmt::Formatter<W>) -> fmt::Result {
+        f.write_str(match self {
             Trouble::Opening => "failed: opening",
             Trouble::Reading => "failed: reading",
             Trouble::Writing => "failed: writing",
-        }
+        })
     }
 }
 
+impl Error for Trouble {}
+
 // What is said at the end of a run on standard error; nothing, if it is done with 0.
-fn verdict(heap: Global, ending: Ending, trouble: Trouble) -> Result<String, AllocError>
-    ensures { IfOk result (λ s. string_bytes s ≡ said ending trouble) }
-{
-    match ending {
-        Ending::Done(0) => Ok(String::new(heap)),
-        Ending::Done(k) => format!(in heap; "done {k}"),
-        Ending::Refused(k) => format!(in heap; "refused {k}"),
-        Ending::TooLong => String::from_str(heap, "refused 1"),
-        Ending::Broken => String::from_str(heap, trouble.text()),
-        Ending::Endless => String::from_str(heap, "failed: no end"),
-        Ending::NoMemory => String::from_str(heap, "failed: no memory"),
+#[derive(Drop)]
+struct Verdict(Result<u64, Failure<Trouble>>);
+
+impl fmt::Display for Verdict {
+    ghost output = { λ v. Some (said v.0) };
+
+    fn fmt<W: fmt::Write>(&self, f: &mut fmt::Formatter<W>) -> fmt::Result {
+        match self.0 {
+            Ok(0) => Ok(()),
+            Ok(k) => write!(f, "done {k}"),
+            Err(Failure::Refused(k)) => write!(f, "refused {k}"),
+            Err(Failure::TooLong) => write!(f, "refused 1"),
+            Err(Failure::Broken(trouble)) => write!(f, "{trouble}"),
+            Err(Failure::Endless) => write!(f, "failed: no end"),
+            Err(Failure::NoMemory) => write!(f, "failed: no memory"),
+        }
     }
 }
 
@@ -64,13 +67,11 @@ fn verdict(heap: Global, ending: Ending, trouble: Trouble) -> Result<String, All
 #[derive(Drop)]
 pub struct Console<'a> {
     rt: &'a HostRuntime,
-    names: Vec<String>,
-    // How many of the files were opened.
-    opened: usize,
+    // The files that aren't opened yet.
+    names: vec::IntoIter<String>,
     source: Source,
     // Whether the last byte that came was no line's end.
     open_line: bool,
-    trouble: Trouble,
 }
 
 impl<'a> Console<'a> {
@@ -82,94 +83,75 @@ impl<'a> Console<'a> {
         };
         Console {
             rt,
-            names,
-            opened: 0,
+            names: names.into_iter(),
             source,
             open_line: false,
-            trouble: Trouble::Nothing,
         }
     }
 
     // The next file is opened; no bytes come of that.
-    fn open_next(&mut self) -> Piece
+    fn open_next(&mut self) -> Result<Option<usize>, Trouble>
         ensures { Few result 0 }
     {
-        let Some(name) = self.names.get(self.opened) else {
-            return Piece::End;
+        let Some(name) = self.names.next() else {
+            return Ok(None);
         };
-        match File::open(self.rt, name) {
-            Ok(file) => {
-                self.source = Source::Open(file);
-                self.opened = self.opened.saturating_add(1);
-                Piece::Bytes(0)
-            }
-            Err(_) => {
-                self.trouble = Trouble::Opening;
-                Piece::Failed
-            }
-        }
+        let file = File::open(self.rt, &name).map_err(|_| Trouble::Opening)?;
+        self.source = Source::Open(file);
+        Ok(Some(0))
     }
 
-    // So many bytes came: whether a line was left open is seen at the last of them.
-    fn came(&mut self, into: &[u8], n: usize) -> Piece
-        requires { n ≤ length into.now }
-        ensures piece { result ≡ Bytes n }
-        ensures line { self.new.open_line ≡ left_open self.old.open_line into.now n }
+    // These bytes came: whether a line was left open is seen at the last of them.
+    fn came(&mut self, bytes: &[u8])
+        ensures { self.new.open_line ≡ left_open self.old.open_line bytes.now (length bytes.now) }
     {
-        if n > 0 {
-            self.open_line = into[n - 1] != b'\n';
+        if let Some(last) = bytes.last() {
+            self.open_line = *last != b'\n';
         }
-        Piece::Bytes(n)
     }
 
     // A file has ended: a line never goes across two files, so one that was left open is ended.
-    fn end_file(&mut self, into: &mut [u8]) -> Piece
+    fn end_file(&mut self, into: &mut [u8]) -> usize
         ensures { Closes self.old.open_line into.old result into.new self.new.open_line }
     {
         self.source = Source::Closed;
         if !self.open_line || into.is_empty() {
-            return Piece::Bytes(0);
+            return 0;
         }
         self.open_line = false;
         into[0] = b'\n';
-        Piece::Bytes(1)
-    }
-
-    // Reading failed.
-    fn no_bytes(&mut self) -> Piece
-        ensures { result ≡ Failed }
-    {
-        self.trouble = Trouble::Reading;
-        Piece::Failed
+        1
     }
 }
 
 impl World for Console<'_> {
+    type Error = Trouble;
+
     // Nothing can be said of what is outside: any world may follow any other.
     ghost account = { record { takes = λ _ _ _. Unit {0}; ends = λ _ _. Unit {0}; shows = λ _ _ _. Unit {0} } };
 
-    fn piece(&mut self, into: &mut [u8]) -> Piece {
+    fn piece(&mut self, into: &mut [u8]) -> Result<Option<usize>, Trouble> {
         match &mut self.source {
             Source::Closed => self.open_next(),
-            Source::Input => match self.rt.stdin().read(into) {
-                Ok(0) => Piece::End,
-                Ok(n) => Piece::Bytes(n),
-                Err(_) => self.no_bytes(),
+            Source::Input => match self.rt.stdin().read(into).map_err(|_| Trouble::Reading)? {
+                0 => Ok(None),
+                n => Ok(Some(n)),
             },
-            Source::Open(file) => match file.read(into) {
-                Ok(0) => self.end_file(into),
-                Ok(n) => self.came(into, n),
-                Err(_) => self.no_bytes(),
+            Source::Open(file) => match file.read(into).map_err(|_| Trouble::Reading)? {
+                0 => Ok(Some(self.end_file(into))),
+                n => {
+                    self.came(&into[..n]);
+                    Ok(Some(n))
+                }
             },
         }
     }
 
-    fn show(&mut self, row: &[u8]) -> bool {
-        let shown = self.rt.stdout().write_all(row).is_ok();
-        if !shown {
-            self.trouble = Trouble::Writing;
-        }
-        shown
+    fn show(&mut self, row: &[u8]) -> Result<(), Trouble> {
+        self.rt
+            .stdout()
+            .write_all(row)
+            .map_err(|_| Trouble::Writing)
     }
 }
 
@@ -187,32 +169,33 @@ pub fn called_with(rt: &HostRuntime) -> anyhow::Result<Option<Command>> {
     let Some(first) = args.next() else {
         return Ok(None);
     };
-    if first.as_str() == "--help" {
-        return Ok(None);
-    }
-    let program = if first.as_str() == "-f" {
-        match args.next() {
-            Some(file) => fs::read(rt, file)?,
-            None => return Ok(None),
+    let program = match first.as_str() {
+        "--help" => return Ok(None),
+        "-f" => {
+            let Some(file) = args.next() else {
+                return Ok(None);
+            };
+            fs::read(rt, file)?
         }
-    } else {
-        first.into_bytes()
+        _ => first.into_bytes(),
     };
     let names = args.collect(rt.alloc())?;
     Ok(Some(Command { program, names }))
 }
 
 // Runs a program over its files, or over standard input if there are none; what is to be said at its end goes to standard error, and then the process
-// is to end with status 1.
-pub fn run(rt: &HostRuntime, command: Command) -> anyhow::Result<ExitCode> {
-    let Command { program, names } = command;
-    let mut console = Console::new(rt, names);
-    let ending = drive(&mut console, rt.alloc(), program.as_slice());
-    let text = verdict(rt.alloc(), ending, console.trouble)?;
-    if text.is_empty() {
+// is to end with status 1. Without a program the usage is shown.
+pub fn run(rt: &HostRuntime, called: Option<Command>, usage: &str) -> anyhow::Result<ExitCode> {
+    let Some(Command { program, names }) = called else {
+        println!(rt; "{usage}")?;
+        return Ok(ExitCode::SUCCESS);
+    };
+    let ending = drive(&mut Console::new(rt, names), rt.alloc(), program.as_slice());
+    if ending == Ok(0) {
         return Ok(ExitCode::SUCCESS);
     }
-    rt.stderr().println(text.as_str())?;
+    let verdict = Verdict(ending);
+    eprintln!(rt; "{verdict}")?;
     Ok(ExitCode::FAILURE)
 }
 

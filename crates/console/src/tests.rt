@@ -3,6 +3,7 @@ ghost use Rattle.std.specs.Prelude.{◌≡◌, ◌++◌};
 ghost use Rattle.machine.specs.Drive.{Account};
 
 use super::*;
+use std::alloc::AllocError;
 
 // A world in memory: a list that is given in pieces of at most `cut` bytes, and what was shown.
 #[derive(Drop)]
@@ -13,27 +14,22 @@ struct Tape<'a> {
 }
 
 impl World for Tape<'_> {
+    type Error = AllocError;
+
     ghost account = { record { takes = λ _ _ _. Unit {0}; ends = λ _ _. Unit {0}; shows = λ s row t. t.shown.items ≡ s.shown.items ++ row } };
 
-    fn piece(&mut self, into: &mut [u8]) -> Piece {
+    fn piece(&mut self, into: &mut [u8]) -> Result<Option<usize>, AllocError> {
         let n = self.list.len().min(self.cut).min(into.len());
         if n == 0 {
-            return Piece::End;
+            return Ok(None);
         }
         into[0..n].copy_from_slice(&self.list[0..n]);
         self.list = &self.list[n..];
-        Piece::Bytes(n)
+        Ok(Some(n))
     }
 
-    fn show(&mut self, row: &[u8]) -> bool {
-        self.shown.extend_from_slice(row).is_ok()
-    }
-}
-
-fn refused(ending: Ending) -> Option<u64> {
-    match ending {
-        Ending::Refused(k) => Some(k),
-        _ => None,
+    fn show(&mut self, row: &[u8]) -> Result<(), AllocError> {
+        self.shown.extend_from_slice(row)
     }
 }
 
@@ -45,8 +41,8 @@ fn nothing_is_known_yet(rt: HostRuntime) {
         shown: Vec::new(rt.alloc()),
     };
     assert_eq!(rt;
-        refused(drive(&mut tape, rt.alloc(), b"{ print; }")),
-        Some(2)
+        drive(&mut tape, rt.alloc(), b"{ print; }"),
+        Err(Failure::Refused(2))
     );
     assert_eq!(rt; tape.shown.len(), 0);
 }

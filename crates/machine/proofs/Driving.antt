@@ -1,13 +1,16 @@
 -- A driver that obeys the machine's last act and tells it the next event has made one act more of the machine's own run, and just its calls.
-use Rattle.std.proofs.Common.{◌≡◌, ℕ, zero, suc, ◌+◌, ◌<◌, ◌≤◌, Bool, true, false, ltb, List, [], ◌∷◌, ◌++◌, length, get_or, take, drop, Some, Option, sym, refl, ap, ◌∙◌, subst, append_assoc, append-nil, zero-add, arith, length-append, length-take}
+use Rattle.std.proofs.Common.{◌≡◌, ℕ, zero, suc, ◌+◌, ◌<◌, ◌≤◌, Bool, true, false, ltb, List, [], ◌∷◌, ◌++◌, length, get_or, take, drop, Ok, Err, Result, sym, refl, ap, ◌∙◌, subst, append_assoc, append-nil, zero-add, arith, length-append, length-take}
 use Rattle.std.proofs.lemmas.Bool.{le-leb, lt-ltb, eq-eqb}
 use Rattle.std.proofs.lemmas.List.{take_at}
+use Rattle.std.specs.Result.{IsErrAnd}
 use Rattle.language.specs.Text.{pick, or, none_of, every}
 use Rattle.language.specs.Run.{Engine, Event, started, bytes, no_more, next, Act, more, write, done, refused, first_piece, other_pieces, one_act, runs, run_of, ran, came, a_row}
 use Rattle.machine.specs.declared.Told.{Told}
 use Rattle.machine.specs.declared.Told.TheVariants.{More, Write, Done, No}
 use Rattle.machine.specs.Entry.{own, ActTold, StepSays, step_fits, event_of}
-use Rattle.machine.specs.Drive.{Call, took, ended, showed, asks, obeyed, calls, shown, ShownIsWritten, Account, Chain, Going, GoesOn, Reached, done_end, refused_end}
+use Rattle.machine.specs.declared.drive.Failure.{Failure}
+use Rattle.machine.specs.declared.drive.Failure.TheVariants.{Broken}
+use Rattle.machine.specs.Drive.{Call, took, ended, showed, asks, obeyed, calls, shown, ShownIsWritten, Account, Chain, Going, Reached, EndedSo, done_end, refused_end}
 use Rattle.machine.proofs.Says.{own_length}
 
 chain_on : {S : Type 0} (a : Account S) (s : S) (cs ds : List Call) (r q : S) → Chain a s cs r → Chain a r ds q → Chain a s (cs ++ ds) q
@@ -120,14 +123,14 @@ refused_is (refused j) k out out₁ h = cc
 module _ {S : Type 0} (a : Account S) (told₁ : Told) (row₁ m₁ : List ℕ) (row m q : List ℕ) (w : S)
     (lm : length m ≡ 262144) (lr : length row ≡ 4096) (lq : length q ≤ 4096) where
   -- it asks again, though there are no more
-  pub asks_again : (over : Bool) → over ≡ true → StepSays m 2 q row (step_fits m 2 q row) told₁ m₁ row₁ →
-      (t : List ℕ) (w₀ : S) → Going a t w₀ over More row m w → Going a t w₀ over told₁ row₁ m₁ w
+  pub asks_again : StepSays m 2 q row (step_fits m 2 q row) told₁ m₁ row₁ →
+      (over : Bool) → over ≡ true → (t : List ℕ) (w₀ : S) → Going a t w₀ over More row m w → Going a t w₀ true told₁ row₁ m₁ w
   unfolding event_of one_act
-  asks_again over e h t w₀ G =
+  asks_again h over e t w₀ G =
       let d = step_did m 2 q row told₁ m₁ row₁ lm (omega arith) lq lr h in
       let i : G.act ≡ more = asked_is G.act G.lent row G.says in
-      one_more a t w₀ over More row m w G [] [] no_more over G.written true w refl (λ fu o f. o f)
-      (λ fu o go. rw (i, o e, e)) (λ fu o go. rw (i, o e)) told₁ row₁ m₁ d.0 d.1
+      one_more a t w₀ over More row m w G [] [] no_more true G.written true w refl (λ fu o f. o refl)
+      (λ fu o go. rw (i, o refl, e)) (λ fu o go. rw (i, o refl)) told₁ row₁ m₁ d.0 d.1
 
   -- the world has no more
   pub asks_none : (w₁ : S) → a.ends w w₁ → StepSays m 2 q row (step_fits m 2 q row) told₁ m₁ row₁ →
@@ -166,7 +169,7 @@ bytes_fit zero row f = refl
 bytes_fit (suc n) [] f = refl
 bytes_fit (suc n) (b ∷ row) f = rw (lt-ltb b 256 (f 0)) (bytes_fit n row (λ i. f (suc i)))
 
-pub row_fits : (n : ℕ) (row : List ℕ) → length row ≡ 4096 → ((i : ℕ) → get_or row i 0 < 256) → a_row (take n row) ≡ true
+pub row_fits : (n : ℕ) (row : List ℕ) → n ≤ 4096 → ((i : ℕ) → get_or row i 0 < 256) → a_row (take n row) ≡ true
 row_fits n row l f = rw (le-leb (length (take n row)) 4096 (omega (arith, length-take n row)), bytes_fit n row f)
 
 -- the world shows what is written
@@ -237,19 +240,12 @@ module _ {S : Type 0} (a : Account S) (t : List ℕ) (w₀ : S) (over : Bool) (t
       let P : Told → Type 0 = λ x. ActTold G.act x G.lent row in
       (wrote_is G.act n G.lent row (subst P e G.says)).1
 
--- a turn of the driver, under other names for what it leaves
-pub turned : {S : Type 0} (a : Account S) (t : List ℕ) (w₀ : S) (told₀ told : Told) (over : Bool) (row m : List ℕ) (w : S) (r r₂ : Option Told) (told₂ : Told)
-    (over₁ over₂ : Bool) (row₁ row₂ m₁ m₂ : List ℕ) (w₁ w₂ : S) → told₀ ≡ told → r₂ ≡ r → r₂ ≡ Some told₂ → over₂ ≡ over₁ → row₂ ≡ row₁ → m₂ ≡ m₁ → w₂ ≡ w₁ →
-    GoesOn a told over row m w r over₁ row₁ m₁ w₁ → Going a t w₀ over told₀ row m w → Going a t w₀ over₂ told₂ row₂ m₂ w₂
-turned {S} a t w₀ told₀ told over row m w r r₂ told₂ over₁ over₂ row₁ row₂ m₁ m₂ w₁ w₂ d e f o p q s h G =
-    let A : Told → Type 0 = λ x. Going a t w₀ over x row m w in
-    let B : Option Told → Type 0 = λ x. GoesOn a told over row m w x over₁ row₁ m₁ w₁ in
-    let i : GoesOn a told over row m w (Some told₂) over₁ row₁ m₁ w₁ = subst B (sym e ∙ f) h in
-    let C : Bool → Type 0 = λ x. Going a t w₀ x told₂ row₁ m₁ w₁ in
-    let D : List ℕ → Type 0 = λ x. Going a t w₀ over₂ told₂ x m₁ w₁ in
-    let E : List ℕ → Type 0 = λ x. Going a t w₀ over₂ told₂ row₂ x w₁ in
-    let F : S → Type 0 = λ x. Going a t w₀ over₂ told₂ row₂ m₂ x in
-    subst F (sym s) (subst E (sym q) (subst D (sym p) (subst C (sym o) (i t w₀ (subst A d G)))))
+-- the world failed: the run had come to a world before that
+pub broke : {S E : Type 0} (a : Account S) (t : List ℕ) (w₀ w : S) (e : E) (r : Result ℕ (Failure E)) → IsErrAnd r (λ f. f ≡ Broken e) →
+    (w₁ : S) → Reached a t w₀ 10000000 w₁ → EndedSo a t w₀ r w
+unfolding EndedSo
+broke a t w₀ w e (Ok k) h w₁ x = absurd h
+broke {S} {E} a t w₀ w e (Err f) h w₁ x = let P : Failure E → Type 0 = λ g. EndedSo a t w₀ (Err g) w in subst P (sym h) (w₁, x)
 
 -- what is shown is what is written: act by act, from what was written before
 module _ (e : Engine) where

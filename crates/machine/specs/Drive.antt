@@ -1,14 +1,12 @@
 -- What a driver of the machine does: it obeys the machine's acts, and so makes certain calls to the world, in a certain order. Assumes nothing: these
 -- are definitions.
-use Rattle.std.specs.Prelude.{◌≡◌, ℕ, zero, suc, ◌+◌, ◌<◌, ◌≤◌, Bool, true, false, ◌&&◌, List, [], ◌∷◌, ◌++◌, length, take, Some, None, Option, nat_le, nat_lt}
+use Rattle.std.specs.Prelude.{◌≡◌, ℕ, zero, suc, ◌+◌, ◌<◌, ◌≤◌, Bool, true, false, ◌&&◌, List, [], ◌∷◌, ◌++◌, length, take, Some, None, Option, Ok, Err, Result, nat_le, nat_lt}
 use Rattle.language.specs.Text.{pick, or, none_of}
 use Rattle.language.specs.Run.{Engine, Event, started, next, Act, more, write, done, refused, first_piece, other_pieces, one_act, runs, run_of, a_row}
 use Rattle.machine.specs.declared.Told.{Told}
 use Rattle.machine.specs.Entry.{own, ActTold}
-use Rattle.machine.specs.declared.drive.Piece.{Piece}
-use Rattle.machine.specs.declared.drive.Piece.TheVariants.{Bytes, End, Failed}
-use Rattle.machine.specs.declared.drive.Ending.{Ending}
-use Rattle.machine.specs.declared.drive.Ending.TheVariants.{Done, Refused, TooLong, Broken, Endless, NoMemory}
+use Rattle.machine.specs.declared.drive.Failure.{Failure}
+use Rattle.machine.specs.declared.drive.Failure.TheVariants.{Refused, TooLong, Broken, Endless, NoMemory}
 
 -- a call to the world: it was asked for a piece, and gave this one; it was asked, and had none; it was given a row to show
 pub data Call : Type 0 where
@@ -62,15 +60,15 @@ Chain {S} a s [] r = s ≡ r
 Chain {S} a s (c ∷ cs) r = (q : S) × Link a s c q × Chain a q cs r
 
 -- what the world gives when it is asked: bytes at the front of what was lent, nothing more, or a failure of which nothing is known
-abbrev pub Gives : {S : Type 0} → Account S → S → Piece → List ℕ → S → Type 0
-Gives a s (Bytes n) into r = (n ≤ length into) × a.takes s (take n into) r
-Gives a s End into r = a.ends s r
-Gives a s Failed into r = Unit {0}
+abbrev pub Gives : {S E : Type 0} → Account S → S → Result (Option ℕ) E → List ℕ → S → Type 0
+Gives a s (Ok (Some n)) into r = (n ≤ length into) × a.takes s (take n into) r
+Gives a s (Ok None) into r = a.ends s r
+Gives a s (Err e) into r = Unit {0}
 
 -- it was shown, or it failed of which nothing is known
-abbrev pub Shows : {S : Type 0} → Account S → S → Bool → List ℕ → S → Type 0
-Shows a s true row r = a.shows s row r
-Shows a s false row r = Unit {0}
+abbrev pub Shows : {S E : Type 0} → Account S → S → Result Unit E → List ℕ → S → Type 0
+Shows a s (Ok u) row r = a.shows s row r
+Shows a s (Err e) row r = Unit {0}
 
 -- The run so far, where the machine's last answer isn't obeyed yet: after n acts, with the pieces ps, these calls were made, and they lead from the
 -- world w₀ to the world w; what the run comes to is what this act and those that follow make of it, whatever pieces are still to come (none, if the
@@ -93,9 +91,9 @@ pub record Going {S : Type 0} (a : Account S) (t : List ℕ) (w₀ : S) (over : 
   pub says : ActTold act told lent row
 
 -- one act more, unless the world failed
-abbrev pub GoesOn : {S : Type 0} → Account S → Told → (over : Bool) (row m : List ℕ) → S → Option Told → (over₁ : Bool) (row₁ m₁ : List ℕ) → S → Type 0
-GoesOn {S} a told over row m w None over₁ row₁ m₁ w₁ = Unit {0}
-GoesOn {S} a told over row m w (Some told₁) over₁ row₁ m₁ w₁ = (t : List ℕ) (w₀ : S) → Going a t w₀ over told row m w → Going a t w₀ over₁ told₁ row₁ m₁ w₁
+abbrev pub GoesOn : {S E : Type 0} → Account S → Told → (over : Bool) (row m : List ℕ) → S → Result Told E → (over₁ : Bool) (row₁ m₁ : List ℕ) → S → Type 0
+GoesOn {S} a told over row m w (Err e) over₁ row₁ m₁ w₁ = Unit {0}
+GoesOn {S} a told over row m w (Ok told₁) over₁ row₁ m₁ w₁ = (t : List ℕ) (w₀ : S) → Going a t w₀ over told row m w → Going a t w₀ over₁ told₁ row₁ m₁ w₁
 
 -- the number of a run's end: as `run_of` has it
 abbrev pub done_end : ℕ → ℕ
@@ -110,10 +108,10 @@ abbrev pub Reached : {S : Type 0} → Account S → (program : List ℕ) → S �
 Reached a t w₀ end w = (n : ℕ) × (ps : List (List ℕ)) × Chain a w₀ (calls n own own.start (started t) ps false) w × ((run_of n own t ps).end ≡ end)
 
 -- What each ending says of the run, from the world w₀ to the world w. Where reading or showing failed, the run had come to a world before that call.
-unfoldable pub EndedSo : {S : Type 0} → Account S → (program : List ℕ) → S → Ending → S → Type 0
-EndedSo {S} a t w₀ (Done k) w = Reached a t w₀ (done_end k) w
-EndedSo {S} a t w₀ (Refused k) w = Reached a t w₀ (refused_end k) w
-EndedSo {S} a t w₀ TooLong w = (4096 < length t) × (w₀ ≡ w)
-EndedSo {S} a t w₀ Broken w = (w₁ : S) × Reached a t w₀ 10000000 w₁
-EndedSo {S} a t w₀ Endless w = Reached a t w₀ 10000000 w
-EndedSo {S} a t w₀ NoMemory w = w₀ ≡ w
+unfoldable pub EndedSo : {S E : Type 0} → Account S → (program : List ℕ) → S → Result ℕ (Failure E) → S → Type 0
+EndedSo {S} a t w₀ (Ok k) w = Reached a t w₀ (done_end k) w
+EndedSo {S} a t w₀ (Err (Refused k)) w = Reached a t w₀ (refused_end k) w
+EndedSo {S} a t w₀ (Err TooLong) w = (4096 < length t) × (w₀ ≡ w)
+EndedSo {S} a t w₀ (Err (Broken e)) w = (w₁ : S) × Reached a t w₀ 10000000 w₁
+EndedSo {S} a t w₀ (Err Endless) w = Reached a t w₀ 10000000 w
+EndedSo {S} a t w₀ (Err NoMemory) w = w₀ ≡ w

@@ -1,6 +1,6 @@
 -- The machine itself, and how one step of it is told to the world outside: over a kind and some bytes, or over an enum of events. Assumes nothing:
 -- these are definitions.
-use Rattle.std.specs.Prelude.{◌≡◌, ℕ, Bool, true, false, ◌&&◌, List, [], ◌++◌, length, drop, replicate, ◌==◌, nat_le}
+use Rattle.std.specs.Prelude.{◌≡◌, ℕ, ◌≤◌, Bool, true, false, ◌&&◌, List, [], ◌++◌, length, drop, replicate, ◌==◌, nat_le, Option, None, Some}
 use Rattle.language.specs.Text.{pick}
 use Rattle.language.specs.Run
 use Rattle.language.specs.Run.{Engine, started, bytes, no_more, next, Act, more, write, done, refused, Step}
@@ -64,6 +64,11 @@ lengths_fit memory piece out = memory == 262144 && (nat_le piece 4096 && nat_le 
 -- a kind that there is, and a piece that isn't too long
 abbrev pub may_tell : (kind piece : ℕ) → Bool
 may_tell kind piece = nat_le kind 3 && nat_le piece 4096
+
+-- the event of a kind with its bytes, just where it may be told
+abbrev pub MayTell : (kind : ℕ) (piece : List ℕ) → Option Event → Type 0
+MayTell kind piece None = may_tell kind (length piece) ≡ false
+MayTell kind piece (Some e) = (may_tell kind (length piece) ≡ true) × (told_of e ≡ event_of kind piece) × (length (bytes_of e) ≤ length piece)
 
 -- an answer as two numbers, for C: which act (0 ask, 1 write, 2 done, 3 refused), and its number; an ask has none, and 0 stands for it
 abbrev pub act_number : Told → ℕ

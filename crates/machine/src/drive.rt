@@ -1,5 +1,5 @@
 // The loop that drives the machine: it tells it what comes, and obeys its acts.
-ghost use Rattle.std.specs.Prelude.{◌≡◌, ℕ, ◌≤◌, Bool, true, List, length, take, Some};
+ghost use Rattle.std.specs.Prelude.{◌≡◌, ℕ, ◌≤◌, Bool, false, true, List, length, take, Option};
 ghost use Rattle.machine.specs.declared.Told.TheVariants.{More, Write};
 ghost use Rattle.language.specs.Run.{a_row};
 ghost use Rattle.machine.specs.Entry.{own};
@@ -8,122 +8,149 @@ ghost use Rattle.machine.specs.Drive.{Account, Gives, Shows, GoesOn, EndedSo, Sh
 use crate::{MEMORY, ROW, Told, step};
 use std::alloc::Global;
 
-// What the world gives when it is asked for a piece.
-#[derive(Clone, Copy)]
-pub enum Piece {
-    // So many bytes, at the front of what was lent.
-    Bytes(usize),
-    // There are no more.
-    End,
-    // Reading failed.
-    Failed,
-}
-
-// How a run ended.
-#[derive(Clone, Copy)]
-pub enum Ending {
-    Done(u64),
+// Why a run isn't done.
+#[derive(Clone, Copy, Debug, Drop, PartialEq, Eq)]
+pub enum Failure<E> {
+    // The machine refused, for this reason.
     Refused(u64),
     // The program has more than 4,096 bytes: the machine was not told of it.
     TooLong,
     // Reading or showing failed.
-    Broken,
+    Broken(E),
     // It went on for more than 2^64 - 2 acts.
     Endless,
     // There is no room for the machine's memory.
     NoMemory,
 }
 
+impl<E> From<E> for Failure<E> {
+    ghost use Rattle.machine.specs.declared.drive.Failure.TheVariants.{Broken};
+
+    ghost from_gives = { λ e f. f ≡ Broken e };
+
+    fn from(error: E) -> Self {
+        Failure::Broken(error)
+    }
+}
+
 // Where pieces come from and rows go.
 pub trait World {
+    // Why one couldn't be given or shown.
+    type Error;
+
     ghost account: { Account Self };
 
-    fn piece(&mut self, into: &mut [u8]) -> Piece
+    // The next piece is so many bytes, at the front of what is lent; or there are no more.
+    fn piece(&mut self, into: &mut [u8]) -> Result<Option<usize>, Self::Error>
         ensures { Gives account self.old result into.new self.new };
 
-    fn show(&mut self, row: &[u8]) -> bool
+    fn show(&mut self, row: &[u8]) -> Result<(), Self::Error>
         ensures { Shows account self.old result row.now self.new };
 }
 
-// The machine has asked for a piece: the world gives one, unless it has said that there are no more.
-fn ask<W: World>(
-    world: &mut W,
-    memory: &mut [u64],
-    piece: &mut [u8],
-    row: &mut [u8],
-    over: &mut bool,
-) -> Option<Told>
-    requires { (length memory.old ≡ 262144) × ((length piece.old ≡ 4096) × (length row.old ≡ 4096)) }
-    ensures { GoesOn W.World.account More over.old row.old memory.old world.old result over.new row.new memory.new world.new }
+// So many bytes at the front of a row are a row, too.
+fn front(row: &[u8], n: u64) -> &[u8]
+    requires within { n ≤ length row.now }
+    requires few { n ≤ 4096 }
+    ensures bytes { result.now ≡ take n row.now }
+    ensures fits { a_row result.now ≡ true }
 {
-    if *over {
-        return Some(step(memory, 2, &piece[0..0], row));
-    }
-    match world.piece(piece) {
-        Piece::Bytes(n) => Some(step(memory, 1, &piece[0..n], row)),
-        Piece::End => {
-            *over = true;
-            Some(step(memory, 2, &piece[0..0], row))
+    &row[..n as usize]
+}
+
+// A machine beside its world, with what is lent to either.
+#[derive(Drop)]
+struct Driver<'a, W> {
+    world: &'a mut W,
+    memory: &'a mut [u64; MEMORY],
+    piece: [u8; ROW],
+    row: [u8; ROW],
+    // Whether the world has said that there are no more pieces.
+    over: bool,
+}
+
+impl<W: World> Driver<'_, W> {
+    // The machine has asked for a piece: the world gives one, unless it has said that there are no more.
+    fn ask(&mut self) -> Result<Told, W::Error>
+        ensures world { self.new.world.ghost_name ≡ self.old.world.ghost_name }
+        ensures memory { self.new.memory.ghost_name ≡ self.old.memory.ghost_name }
+        ensures goes_on { GoesOn W.World.account More self.old.over self.old.row self.old.memory.now self.old.world.now result self.new.over self.new.row self.new.memory.now self.new.world.now }
+    {
+        let Driver {
+            world,
+            memory,
+            piece,
+            row,
+            over,
+        } = self;
+        if !*over && let Some(n) = world.piece(piece)? {
+            return Ok(step(*memory, 1, &piece[..n], row));
         }
-        Piece::Failed => None,
+        *over = true;
+        Ok(step(*memory, 2, &[], row))
     }
-}
 
-// The world shows so many bytes of the row, which are a row too.
-fn show_front<W: World>(world: &mut W, row: &[u8], n: usize) -> bool
-    requires { (length row.now ≡ 4096) × (n ≤ 4096) }
-    ensures shown { Shows W.World.account world.old result (take n row.now) world.new }
-    ensures bytes { a_row (take n row.now) ≡ true }
-{
-    world.show(&row[0..n])
-}
-
-// The machine writes so many bytes of the row: the world shows them, and the machine is told to go on.
-fn put<W: World>(world: &mut W, memory: &mut [u64], row: &mut [u8], n: u64) -> Option<Told>
-    requires { (length memory.old ≡ 262144) × ((length row.old ≡ 4096) × (n ≤ 4096)) }
-    ensures { (over : Bool) → GoesOn W.World.account (Write n) over row.old memory.old world.old result over row.new memory.new world.new }
-{
-    if !show_front(world, row, n as usize) {
-        return None;
+    // The machine writes so many bytes of the row: the world shows them, and the machine is told to go on.
+    fn put(&mut self, n: u64) -> Result<Told, W::Error>
+        requires { n ≤ length self.old.row }
+        ensures world { self.new.world.ghost_name ≡ self.old.world.ghost_name }
+        ensures memory { self.new.memory.ghost_name ≡ self.old.memory.ghost_name }
+        ensures goes_on { GoesOn W.World.account (Write n) self.old.over self.old.row self.old.memory.now self.old.world.now result self.new.over self.new.row self.new.memory.now self.new.world.now }
+    {
+        let Driver {
+            world,
+            memory,
+            row,
+            ..
+        } = self;
+        world.show(front(row, n))?;
+        Ok(step(*memory, 3, &[], row))
     }
-    Some(step(memory, 3, &[], row))
-}
 
-// Drives the machine in a memory that is as at the start.
-fn run<W: World>(world: &mut W, memory: &mut [u64], program: &[u8]) -> Ending
-    requires { (memory.old ≡ own.start) × (length program.now ≤ 4096) }
-    ensures { EndedSo W.World.account program.now world.old result world.new }
-{
-    let mut piece = [0u8; ROW];
-    let mut row = [0u8; ROW];
-    let mut over = false;
-    let mut told = step(memory, 0, program, &mut row);
-    for _ in 0..u64::MAX {
-        let turn = match told {
-            Told::More => ask(world, memory, &mut piece, &mut row, &mut over),
-            Told::Write(n) => put(world, memory, &mut row, n),
-            Told::Done(k) => return Ending::Done(k),
-            Told::No(k) => return Ending::Refused(k),
-        };
-        match turn {
-            Some(next) => told = next,
-            None => return Ending::Broken,
+    // Drives the machine in a memory that is as at the start.
+    fn run(&mut self, program: &[u8]) -> Result<u64, Failure<W::Error>>
+        requires start { self.old.memory.now ≡ own.start }
+        requires fresh { self.old.over ≡ false }
+        requires short { length program.now ≤ 4096 }
+        ensures world { self.new.world.ghost_name ≡ self.old.world.ghost_name }
+        ensures ended { EndedSo W.World.account program.now self.old.world.now result self.new.world.now }
+    {
+        let Driver { memory, row, .. } = self;
+        let mut told = step(*memory, 0, program, row);
+        for _ in 0..u64::MAX {
+            told = match told {
+                Told::More => self.ask()?,
+                Told::Write(n) => self.put(n)?,
+                Told::Done(k) => return Ok(k),
+                Told::No(k) => return Err(Failure::Refused(k)),
+            };
         }
+        Err(Failure::Endless)
     }
-    Ending::Endless
 }
 
 // Runs a program in a memory of its own: asks the world for pieces and shows it rows, as the machine says, till the run is over.
-pub fn drive<W: World>(world: &mut W, heap: Global, program: &[u8]) -> Ending
+pub fn drive<W: World>(
+    world: &mut W,
+    heap: Global,
+    program: &[u8],
+) -> Result<u64, Failure<W::Error>>
     ensures { EndedSo W.World.account program.now world.old result world.new }
 {
     if program.len() > ROW {
-        return Ending::TooLong;
+        return Err(Failure::TooLong);
     }
-    match Vec::from_elem(heap, 0u64, MEMORY) {
-        Ok(mut memory) => run(world, memory.as_mut_slice(), program),
-        Err(_) => Ending::NoMemory,
-    }
+    let Ok(mut memory) = Vec::from_elem(heap, 0u64, MEMORY) else {
+        return Err(Failure::NoMemory);
+    };
+    let mut driver = Driver {
+        world,
+        memory: <&mut [u64; MEMORY]>::try_from(memory.as_mut_slice()).unwrap(),
+        piece: [0; ROW],
+        row: [0; ROW],
+        over: false,
+    };
+    driver.run(program)
 }
 
 // The calls that a run makes are its own account: what is shown by them is what the run writes.

@@ -5,7 +5,7 @@ pub mod drive;
 
 ghost use Rattle.std.specs.Prelude.{◌≡◌, ◌≤◌, length};
 ghost use Rattle.language.specs.Run.{Steady};
-ghost use Rattle.machine.specs.Entry.{own, act_number, told_number, StepSays, step_fits, TellSays, tell_fits, lengths_fit, may_tell, told_of, bytes_of, event_of};
+ghost use Rattle.machine.specs.Entry.{own, act_number, told_number, StepSays, step_fits, TellSays, tell_fits, lengths_fit, MayTell, bytes_of, told_of};
 
 // How many numbers the machine's memory has.
 pub const MEMORY: usize = 262_144;
@@ -13,8 +13,8 @@ pub const MEMORY: usize = 262_144;
 // How many bytes a piece or a row has at most.
 pub const ROW: usize = 4096;
 
-// What the machine does in a step.
-#[derive(Clone, Copy)]
+// What the machine does in a step. A refusal stands among the acts and is no Err, since the specification and C count four acts.
+#[derive(Clone, Copy, Debug, PartialEq, Eq)]
 pub enum Told {
     // It asks for the next piece.
     More,
@@ -26,8 +26,23 @@ pub enum Told {
     No(u64),
 }
 
+impl Told {
+    // Which act it is, and its number, for C; an ask has none.
+    fn numbers(self) -> (u64, u64)
+        ensures act { result.0 ≡ act_number self }
+        ensures number { result.1 ≡ told_number self }
+    {
+        match self {
+            Told::More => (0, 0),
+            Told::Write(n) => (1, n),
+            Told::Done(k) => (2, k),
+            Told::No(k) => (3, k),
+        }
+    }
+}
+
 // What the machine is told.
-#[derive(Clone, Copy)]
+#[derive(Clone, Copy, Debug, PartialEq, Eq)]
 pub enum Event<'a> {
     // A program's text; the memory is all 0.
     Program(&'a [u8]),
@@ -39,15 +54,33 @@ pub enum Event<'a> {
     Next,
 }
 
-// How many bytes come with an event.
-fn came_with(event: Event) -> usize
-    ensures { result ≡ length (bytes_of event.entry) }
-{
-    match event {
-        Event::Program(text) => text.len(),
-        Event::Piece(piece) => piece.len(),
-        Event::NoMore => 0,
-        Event::Next => 0,
+impl<'a> Event<'a> {
+    // The event of a kind, if there is one with so many bytes: 0 a program, 1 a piece, 2 no more, 3 go on.
+    #[tactic(auto, unfolding(crate::specs::Entry::event_of))]
+    fn of(kind: u64, piece: &'a [u8]) -> Option<Self>
+        ensures { MayTell kind piece.now result }
+    {
+        if piece.len() > ROW {
+            return None;
+        }
+        match kind {
+            0 => Some(Event::Program(piece)),
+            1 => Some(Event::Piece(piece)),
+            2 => Some(Event::NoMore),
+            3 => Some(Event::Next),
+            _ => None,
+        }
+    }
+
+    // How many bytes come with it.
+    fn came_with(self) -> usize
+        ensures { result ≡ length (bytes_of self.entry) }
+    {
+        match self {
+            Event::Program(text) => text.len(),
+            Event::Piece(piece) => piece.len(),
+            Event::NoMore | Event::Next => 0,
+        }
     }
 }
 
@@ -58,68 +91,24 @@ fn fits(memory: usize, piece: usize, out: usize) -> bool
     memory == MEMORY && piece <= ROW && out >= ROW
 }
 
-// One step of the machine over an event.
+// One step of the machine over an event. Memory and row are slices and no arrays: what doesn't fit is refused, not ruled out.
 pub fn tell(memory: &mut [u64], event: Event, out: &mut [u8]) -> Told
     ensures { TellSays memory.old (told_of event.entry) out.old (tell_fits memory.old (bytes_of event.entry) out.old) result memory.new out.new }
 {
-    if !fits(memory.len(), came_with(event), out.len()) {
+    if !fits(memory.len(), event.came_with(), out.len()) {
         return Told::No(0);
     }
     Told::No(2)
 }
 
-// Whether there is such a kind of event, with so many bytes.
-fn allowed(kind: u64, piece: usize) -> bool
-    ensures { result ≡ may_tell kind piece }
-{
-    kind <= 3 && piece <= ROW
-}
-
-// The event of a kind: 0 a program, 1 a piece, 2 no more, 3 go on.
-fn event_of(kind: u64, piece: &[u8]) -> Event<'_>
-    ensures event { told_of result ≡ event_of kind piece.now }
-    ensures short { length (bytes_of result) ≤ length piece.now }
-{
-    match kind {
-        0 => Event::Program(piece),
-        1 => Event::Piece(piece),
-        2 => Event::NoMore,
-        _ => Event::Next,
-    }
-}
-
-// One step of the machine over a kind and its bytes.
+// One step of the machine over a kind and its bytes: the specification's own signature, which C has, too.
 pub fn step(memory: &mut [u64], kind: u64, piece: &[u8], out: &mut [u8]) -> Told
     ensures steady { Steady own }
     ensures says { StepSays memory.old kind piece.now out.old (step_fits memory.old kind piece.now out.old) result memory.new out.new }
 {
-    if !allowed(kind, piece.len()) {
-        return Told::No(0);
-    }
-    tell(memory, event_of(kind, piece), out)
-}
-
-// Which act an answer is, as a number for C.
-fn act_number(told: Told) -> u64
-    ensures { result ≡ act_number told }
-{
-    match told {
-        Told::More => 0,
-        Told::Write(_) => 1,
-        Told::Done(_) => 2,
-        Told::No(_) => 3,
-    }
-}
-
-// The number that comes with an answer; an ask has none.
-fn told_number(told: Told) -> u64
-    ensures { result ≡ told_number told }
-{
-    match told {
-        Told::More => 0,
-        Told::Write(n) => n,
-        Told::Done(k) => k,
-        Told::No(k) => k,
+    match Event::of(kind, piece) {
+        Some(event) => tell(memory, event, out),
+        None => Told::No(0),
     }
 }
 
@@ -133,7 +122,7 @@ pub fn movkresan_step(
 ) -> u64
     ensures { (told : Told) × (result ≡ act_number told) × (number.new ≡ told_number told) × StepSays memory.old kind piece.now out.old (step_fits memory.old kind piece.now out.old) told memory.new out.new }
 {
-    let told = step(memory, kind, piece, out);
-    *number = told_number(told);
-    act_number(told)
+    let (act, its_number) = step(memory, kind, piece, out).numbers();
+    *number = its_number;
+    act
 }

@@ -3,14 +3,10 @@
 
 use std::process::ExitCode;
 
+const USAGE: &str = "usage: report PROGRAM [FILE..]
+       report -f PROGRAM-FILE [FILE..]
+Runs a program over the lines of the files, or of standard input.";
+
 fn main(rt: HostRuntime) -> anyhow::Result<ExitCode> {
-    match console::called_with(&rt)? {
-        Some(command) => console::run(&rt, command),
-        None => {
-            println!(rt; "usage: report PROGRAM [FILE..]")?;
-            println!(rt; "       report -f PROGRAM-FILE [FILE..]")?;
-            println!(rt; "Runs a program over the lines of the files, or of standard input.")?;
-            Ok(ExitCode::SUCCESS)
-        }
-    }
+    console::run(&rt, console::called_with(&rt)?, USAGE)
 }

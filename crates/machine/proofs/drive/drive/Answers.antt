@@ -7,10 +7,12 @@ pub returns-then-program-gt-ROW : goal.returns-then-program-gt-ROW
 unfolding EndedSo
 returns-then-program-gt-ROW g c = (c.if-program-gt-ROW.true, refl)
 
-pub run-requires : goal.run-requires
-unfolding own
-run-requires g c = (c.as_mut_slice.ensures.value ∙ c.in-Ok.ensures.items_if_clones_equal (λ y e. e), c.if-program-gt-ROW.false)
-
-pub returns-in-Err : goal.returns-in-Err
+pub returns-in_default : goal.returns-in_default
 unfolding EndedSo
-returns-in-Err g c = refl
+returns-in_default g c = refl
+
+pub run-requires-clause-start : goal.run-requires-clause-start
+unfolding own
+run-requires-clause-start g c =
+    let h = rw c.unwrap.ensures at c.try_from.ensures.1 in
+    h.same ∙ c.as_mut_slice.ensures.value ∙ c.in-Ok.ensures.items_if_clones_equal (λ y e. e)
