@@ -14,7 +14,7 @@ use Rattle.machine.specs.Drive.{Call, took, ended, showed, asks, obeyed, calls, 
 use Rattle.machine.proofs.Says.{own_length}
 
 chain_on : {S : Type 0} (a : Account S) (s : S) (cs ds : List Call) (r q : S) → Chain a s cs r → Chain a r ds q → Chain a s (cs ++ ds) q
-chain_on {S} a s [] ds r q h k = let P : S → Type 0 = λ x. Chain a x ds q in subst P (sym h) k
+chain_on {S} a s [] ds r q h k = rw h k
 chain_on {S} a s (c ∷ cs) ds r q h k = (h.0, h.1, chain_on a h.0 cs ds r q h.2 k)
 
 -- a step of the code that fits is one of the machine's
@@ -25,8 +25,7 @@ unfolding step_fits StepSays
 step_did m k p o r m₁ o₁ a b c d h =
     let e : step_fits m k p o ≡ true =
     rw (eq-eqb (length m) (length own.start) (a ∙ sym own_length), le-leb k 3 b, le-leb (length p) 4096 c, le-leb 4096 (length o) (omega arith)) in
-    let P : Bool → Type 0 = λ v. StepSays m k p o v r m₁ o₁ in
-    subst P e h
+    rw e at h
 
 module _ {S : Type 0} (a : Account S) (t : List ℕ) (w₀ : S) (over : Bool) (told : Told) (row m : List ℕ) (w : S) (G : Going a t w₀ over told row m w) where
   -- one act more: these calls, these pieces, this event
@@ -40,21 +39,17 @@ module _ {S : Type 0} (a : Account S) (t : List ℕ) (w₀ : S) (over : Bool) (t
     unfolding calls
     made₁ =
         let e : G.n + 1 ≡ suc G.n = omega arith in
-        let nil : qs ++ [] ≡ qs = append-nil qs in
         let h = G.calls_on (qs ++ []) 0 (few [] (λ o. refl)) in
         let i = call [] (λ o. refl) (λ m₁ ev₁ ps₁ over₁. calls 0 own m₁ ev₁ ps₁ over₁) in
-        let j : calls (suc G.n) own own.start (started t) (G.ps ++ qs) false ≡ G.log ++ obeyed (λ m₁ ev₁ ps₁ over₁. calls 0 own m₁ ev₁ ps₁ over₁) (qs ++ []) over m G.act =
-        ap (λ k. calls k own own.start (started t) (G.ps ++ qs) false) (sym e) ∙ ap (λ z. calls (G.n + 1) own own.start (started t) (G.ps ++ z) false) (sym nil) ∙ h in
-        j ∙ ap (λ z. G.log ++ z) (i ∙ append-nil cs)
+        simp (e, append-nil) at (h ∙ ap (λ z. G.log ++ z) i)
 
     busy₁ : (run_of (suc G.n) own t (G.ps ++ qs)).end ≡ 10000000
     unfolding runs
     busy₁ =
         let e : G.n + 1 ≡ suc G.n = omega arith in
-        let nil : qs ++ [] ≡ qs = append-nil qs in
         let h = G.runs_on (qs ++ []) 0 (few [] (λ o. refl)) in
         let i = act [] (λ o. refl) (λ m₁ ev₁ ps₁ w₁ g₁ a₁. runs 0 own m₁ ev₁ ps₁ w₁ g₁ a₁) in
-        ap (λ k. (run_of k own t (G.ps ++ qs)).end) (sym e) ∙ ap (λ z. (run_of (G.n + 1) own t (G.ps ++ z)).end) (sym nil) ∙ ap (λ r. r.end) (h ∙ i)
+        simp (e, append-nil) at (ap (λ r. r.end) (h ∙ i))
 
     calls_on₁ : (fu : List (List ℕ)) (k : ℕ) → (over₁ ≡ true → fu ≡ []) →
         calls (suc G.n + suc k) own own.start (started t) ((G.ps ++ qs) ++ fu) false
@@ -62,12 +57,8 @@ module _ {S : Type 0} (a : Account S) (t : List ℕ) (w₀ : S) (over : Bool) (t
     unfolding calls
     calls_on₁ fu k o =
         let e : suc G.n + suc k ≡ G.n + suc (suc k) = omega arith in
-        ap (λ j. calls j own own.start (started t) ((G.ps ++ qs) ++ fu) false) e
-        ∙ ap (λ z. calls (G.n + suc (suc k)) own own.start (started t) z false) (append_assoc G.ps qs fu)
-        ∙ G.calls_on (qs ++ fu) (suc k) (few fu o)
-        ∙ ap (λ z. G.log ++ z) (call fu o (λ m₂ ev₂ ps₂ over₂. calls (suc k) own m₂ ev₂ ps₂ over₂))
-        ∙ sym (append_assoc G.log cs (calls (suc k) own m ev fu over₁))
-        ∙ ap (λ z. (G.log ++ cs) ++ obeyed (λ m₂ ev₂ ps₂ over₂. calls k own m₂ ev₂ ps₂ over₂) fu over₁ z (own.step m ev).act) (sym mem)
+        let i = call fu o (λ m₂ ev₂ ps₂ over₂. calls (suc k) own m₂ ev₂ ps₂ over₂) in
+        rw (e, append_assoc G.ps qs fu, G.calls_on (qs ++ fu) (suc k) (few fu o), i, append_assoc, mem)
 
     runs_on₁ : (fu : List (List ℕ)) (k : ℕ) → (over₁ ≡ true → fu ≡ []) →
         runs (suc G.n + suc k) own own.start (started t) ((G.ps ++ qs) ++ fu) [] 0 false
@@ -75,11 +66,8 @@ module _ {S : Type 0} (a : Account S) (t : List ℕ) (w₀ : S) (over : Bool) (t
     unfolding runs
     runs_on₁ fu k o =
         let e : suc G.n + suc k ≡ G.n + suc (suc k) = omega arith in
-        ap (λ j. runs j own own.start (started t) ((G.ps ++ qs) ++ fu) [] 0 false) e
-        ∙ ap (λ z. runs (G.n + suc (suc k)) own own.start (started t) z [] 0 false) (append_assoc G.ps qs fu)
-        ∙ G.runs_on (qs ++ fu) (suc k) (few fu o)
-        ∙ act fu o (λ m₂ ev₂ ps₂ w₂ g₂ a₂. runs (suc k) own m₂ ev₂ ps₂ w₂ g₂ a₂)
-        ∙ ap (λ z. one_act (λ m₂ ev₂ ps₂ w₂ g₂ a₂. runs k own m₂ ev₂ ps₂ w₂ g₂ a₂) fu written₁ (G.given + pick asked (came ev) 0) z (own.step m ev).act) (sym mem)
+        let i = act fu o (λ m₂ ev₂ ps₂ w₂ g₂ a₂. runs (suc k) own m₂ ev₂ ps₂ w₂ g₂ a₂) in
+        rw (e, append_assoc, G.runs_on (qs ++ fu) (suc k) (few fu o), i, mem)
 
     one_more : Going a t w₀ over₁ told₁ row₁ m₁ w₁
     one_more = record {
@@ -98,27 +86,27 @@ module _ {S : Type 0} (a : Account S) (t : List ℕ) (w₀ : S) (over : Bool) (t
       says = says;
     }
 
--- which act an answer is
-asked_is : (act : Act) (out out₁ : List ℕ) → ActTold act More out out₁ → act ≡ more
-unfolding ActTold
-asked_is more out out₁ h = refl
-asked_is (write bs) out out₁ h = cc
-asked_is (done k) out out₁ h = cc
-asked_is (refused k) out out₁ h = cc
+-- which act an answer is, with the row beside it
+abbrev act_of : Told → (row : List ℕ) → Act
+act_of More row = more
+act_of (Write n) row = write (take n row)
+act_of (Done k) row = done k
+act_of (No k) row = refused k
 
-pub done_is : (act : Act) (k : ℕ) (out out₁ : List ℕ) → ActTold act (Done k) out out₁ → act ≡ done k
+act_is : (act : Act) (told : Told) (out row : List ℕ) → ActTold act told out row → act ≡ act_of told row
 unfolding ActTold
-done_is more k out out₁ h = cc
-done_is (write bs) k out out₁ h = cc
-done_is (done j) k out out₁ h = cc
-done_is (refused j) k out out₁ h = cc
+act_is more told out row h = rw h.0
+act_is (write bs) told out row h = rw (h.0, h.1) (ap write (sym (take_at bs (drop (length bs) out) _ refl)))
+act_is (done k) told out row h = rw h.0
+act_is (refused k) told out row h = rw h.0
 
-pub refused_is : (act : Act) (k : ℕ) (out out₁ : List ℕ) → ActTold act (No k) out out₁ → act ≡ refused k
+-- what is written stands in the row
+within : (act : Act) (n : ℕ) (out row : List ℕ) → ActTold act (Write n) out row → n ≤ length row
 unfolding ActTold
-refused_is more k out out₁ h = cc
-refused_is (write bs) k out out₁ h = cc
-refused_is (done j) k out out₁ h = cc
-refused_is (refused j) k out out₁ h = cc
+within more n out row h = absurd (cc)
+within (write bs) n out row h = let e : n ≡ length bs = cc in omega (arith, length-append bs (drop (length bs) out), ap length h.1)
+within (done k) n out row h = absurd (cc)
+within (refused k) n out row h = absurd (cc)
 
 module _ {S : Type 0} (a : Account S) (told₁ : Told) (row₁ m₁ : List ℕ) (row m q : List ℕ) (w : S)
     (lm : length m ≡ 262144) (lr : length row ≡ 4096) (lq : length q ≤ 4096) where
@@ -128,7 +116,7 @@ module _ {S : Type 0} (a : Account S) (told₁ : Told) (row₁ m₁ : List ℕ) 
   unfolding event_of one_act
   asks_again h over e t w₀ G =
       let d = step_did m 2 q row told₁ m₁ row₁ lm (omega arith) lq lr h in
-      let i : G.act ≡ more = asked_is G.act G.lent row G.says in
+      let i : G.act ≡ more = act_is G.act More G.lent row G.says in
       one_more a t w₀ over More row m w G [] [] no_more true G.written true w refl (λ fu o f. o refl)
       (λ fu o go. rw (i, o refl, e)) (λ fu o go. rw (i, o refl)) told₁ row₁ m₁ d.0 d.1
 
@@ -138,7 +126,7 @@ module _ {S : Type 0} (a : Account S) (told₁ : Told) (row₁ m₁ : List ℕ) 
   unfolding event_of one_act
   asks_none w₁ l h over e t w₀ G =
       let d = step_did m 2 q row told₁ m₁ row₁ lm (omega arith) lq lr h in
-      let i : G.act ≡ more = asked_is G.act G.lent row G.says in
+      let i : G.act ≡ more = act_is G.act More G.lent row G.says in
       one_more a t w₀ over More row m w G (ended ∷ []) [] no_more true G.written true w₁ (w₁, l, refl) (λ fu o f. cc)
       (λ fu o go. rw (i, o refl, e)) (λ fu o go. rw (i, o refl)) told₁ row₁ m₁ d.0 d.1
 
@@ -148,20 +136,9 @@ module _ {S : Type 0} (a : Account S) (told₁ : Told) (row₁ m₁ : List ℕ) 
   unfolding event_of one_act
   asks_piece w₁ l h over e t w₀ G =
       let d = step_did m 1 q row told₁ m₁ row₁ lm (omega arith) lq lr h in
-      let i : G.act ≡ more = asked_is G.act G.lent row G.says in
+      let i : G.act ≡ more = act_is G.act More G.lent row G.says in
       one_more a t w₀ over More row m w G (took q ∷ []) (q ∷ []) (bytes q) over G.written true w₁ (w₁, l, refl) (λ fu o f. cc)
       (λ fu o go. rw (i, e)) (λ fu o go. rw i) told₁ row₁ m₁ d.0 d.1
-
--- it writes: what stands at the front of the row is what it writes, and it is a row
-wrote_is : (act : Act) (n : ℕ) (out row : List ℕ) → ActTold act (Write n) out row → (act ≡ write (take n row)) × (n ≤ length row)
-unfolding ActTold
-wrote_is more n out row h = let z : ◌≡◌ {A = ℕ} 0 1 = cc in absurd (omega arith)
-wrote_is (write bs) n out row h =
-    let e : n ≡ length bs = cc in
-    let f : take n row ≡ bs = ap (λ k. take k row) e ∙ ap (λ r. take (length bs) r) h.1 ∙ take_at bs (drop (length bs) out) _ refl in
-    (ap write (sym f), omega (arith, length-append bs (drop (length bs) out), ap length h.1))
-wrote_is (done k) n out row h = let z : ◌≡◌ {A = ℕ} 0 1 = cc in absurd (omega arith)
-wrote_is (refused k) n out row h = let z : ◌≡◌ {A = ℕ} 0 1 = cc in absurd (omega arith)
 
 -- the first bytes of a row of bytes are one
 bytes_fit : (n : ℕ) (row : List ℕ) → ((i : ℕ) → get_or row i 0 < 256) → every (λ b. ltb b 256) (take n row) ≡ true
@@ -179,7 +156,7 @@ pub writes_row : {S : Type 0} (a : Account S) (told₁ : Told) (row₁ m₁ row 
 unfolding event_of one_act
 writes_row a told₁ row₁ m₁ row m w w₁ n lm lr k l h over t w₀ G =
     let d = step_did m 3 [] row told₁ m₁ row₁ lm (omega arith) (omega arith) lr h in
-    let i = (wrote_is G.act n G.lent row G.says).0 in
+    let i : G.act ≡ write (take n row) = act_is G.act (Write n) G.lent row G.says in
     one_more a t w₀ over (Write n) row m w G (showed (take n row) ∷ []) [] next over (G.written ++ take n row) false w₁ (w₁, l, refl) (λ fu o e. o e)
     (λ fu o go. rw (i, k)) (λ fu o go. rw (i, k)) told₁ row₁ m₁ d.0 d.1
 
@@ -223,22 +200,20 @@ module _ {S : Type 0} (a : Account S) (t : List ℕ) (w₀ : S) (over : Bool) (t
   pub done_with : (k : ℕ) → told ≡ Done k → Reached a t w₀ (done_end k) w
   unfolding one_act
   done_with k e =
-      let P : Told → Type 0 = λ x. ActTold G.act x G.lent row in
-      let i = done_is G.act k G.lent row (subst P e G.says) in
+      let i : G.act ≡ done k = act_is G.act told G.lent row G.says ∙ ap (λ x. act_of x row) e in
       last_act (done_end k) (λ go. rw i) (λ go. rw i)
 
   pub refused_with : (k : ℕ) → told ≡ No k → Reached a t w₀ (refused_end k) w
   unfolding one_act
   refused_with k e =
-      let P : Told → Type 0 = λ x. ActTold G.act x G.lent row in
-      let i = refused_is G.act k G.lent row (subst P e G.says) in
+      let i : G.act ≡ refused k = act_is G.act told G.lent row G.says ∙ ap (λ x. act_of x row) e in
       last_act (refused_end k) (λ go. rw i) (λ go. rw i)
 
   -- what it writes stands in the row
   pub write_within : (n : ℕ) → told ≡ Write n → n ≤ length row
   write_within n e =
       let P : Told → Type 0 = λ x. ActTold G.act x G.lent row in
-      (wrote_is G.act n G.lent row (subst P e G.says)).1
+      within G.act n G.lent row (subst P e G.says)
 
 -- the world failed: the run had come to a world before that
 pub broke : {S E : Type 0} (a : Account S) (t : List ℕ) (w₀ w : S) (e : E) (r : Result ℕ (Failure E)) → IsErrAnd r (λ f. f ≡ Broken e) →

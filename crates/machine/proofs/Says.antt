@@ -2,6 +2,7 @@
 use Rattle.std.proofs.Common.{◌≡◌, ℕ, zero, suc, ◌≤◌, Bool, true, false, ◌&&◌, eqb, leb, List, length, replicate, sym, refl, ap, ◌∙◌, subst, le_trans, arith}
 use lib.ListN.{length-replicate}
 use Rattle.std.proofs.lemmas.Bool.{and_parts, leb-true, le-leb}
+use Rattle.std.proofs.lemmas.Bool.Decides.{nat_tests}
 use Rattle.language.specs.Text.{every}
 use Rattle.language.specs.Run.{Event, Steady}
 use Rattle.machine.specs.declared.Told.{Told}
@@ -32,25 +33,21 @@ module _ (m p o : List ℕ) (ev : Event) (n : ℕ) (b : Bool) (came : n ≡ leng
   -- what doesn't fit is refused, and nothing is changed
   pub tell_refuses : b ≡ false → TellSays m ev o (tell_fits m p o) (No 0) m o
   unfolding TellSays
-  tell_refuses e = let P : Bool → Type 0 = λ v. TellSays m ev o v (No 0) m o in subst P (fits_by false e) (refl, refl, refl)
+  tell_refuses e = rw (← fits_by false e) (refl, refl, refl)
 
   -- as yet, what fits isn't known
   pub unknown : b ≡ true → TellSays m ev o (tell_fits m p o) (No 2) m o
   unfolding TellSays ActTold own
-  unknown e = let P : Bool → Type 0 = λ v. TellSays m ev o v (No 2) m o in subst P (fits_by true e) (refl, (refl, refl))
+  unknown e = rw (← fits_by true e) (refl, (refl, refl))
 
 -- no such kind, or too long a piece
 step_fits_not : (a b c d : Bool) → (b && c) ≡ false → (a && (b && (c && d))) ≡ false
-step_fits_not true true true d e = cc
-step_fits_not true true false d e = refl
-step_fits_not true false c d e = refl
-step_fits_not false b c d e = refl
+step_fits_not a b c d e = grind (arith, nat_tests)
 
 pub step_refuses : (m : List ℕ) (k : ℕ) (p o : List ℕ) → may_tell k (length p) ≡ false → StepSays m k p o (step_fits m k p o) (No 0) m o
 unfolding step_fits StepSays
 step_refuses m k p o e =
-    let P : Bool → Type 0 = λ v. StepSays m k p o v (No 0) m o in
-    subst P (sym (step_fits_not (eqb (length m) (length own.start)) (leb k 3) (leb (length p) 4096) (leb 4096 (length o)) e)) (refl, refl, refl)
+    rw (step_fits_not (eqb (length m) (length own.start)) (leb k 3) (leb (length p) 4096) (leb 4096 (length o)) e) (refl, refl, refl)
 
 -- a kind with its bytes is told as its event is
 step_as_told : (m : List ℕ) (k : ℕ) (p o : List ℕ) (b : Bool) (r : Told) (m₁ o₁ : List ℕ) → TellSays m (event_of k p) o b r m₁ o₁ → StepSays m k p o b r m₁ o₁

@@ -130,6 +130,7 @@ impl<W: World> Driver<'_, W> {
 }
 
 // Runs a program in a memory of its own: asks the world for pieces and shows it rows, as the machine says, till the run is over.
+#[tactic(auto, unfolding(crate::specs::Drive::EndedSo))]
 pub fn drive<W: World>(
     world: &mut W,
     heap: Global,

@@ -1,15 +1,6 @@
-use Rattle.std.proofs.Common.{refl, ◌∙◌}
+use Rattle.std.proofs.Common.{◌∙◌}
 use Rattle.machine.specs.Entry.{own}
-use Rattle.machine.specs.Drive.{EndedSo}
 use Rattle.machine.proofs.drive.drive.Goals as goal
-
-pub returns-then-program-gt-ROW : goal.returns-then-program-gt-ROW
-unfolding EndedSo
-returns-then-program-gt-ROW g c = (c.if-program-gt-ROW.true, refl)
-
-pub returns-in_default : goal.returns-in_default
-unfolding EndedSo
-returns-in_default g c = refl
 
 pub run-requires-clause-start : goal.run-requires-clause-start
 unfolding own
