@@ -9,7 +9,7 @@ use Rattle.machine.specs.declared.Told.{Told}
 use Rattle.machine.specs.declared.Told.TheVariants.{More, Write, Done, No}
 use Rattle.machine.specs.Entry.{own, ActTold, StepSays, step_fits, event_of}
 use Rattle.machine.specs.declared.drive.Failure.{Failure}
-use Rattle.machine.specs.declared.drive.Failure.TheVariants.{Broken}
+use Rattle.machine.specs.declared.drive.Failure.TheVariants.{Refused, Broken, Endless}
 use Rattle.machine.specs.Drive.{Call, took, ended, showed, asks, obeyed, calls, shown, ShownIsWritten, Account, Chain, Going, Reached, EndedSo, done_end, refused_end}
 use Rattle.machine.proofs.Says.{own_length}
 
@@ -27,7 +27,7 @@ step_did m k p o r m₁ o₁ a b c d h =
     rw (eq-eqb (length m) (length own.start) (a ∙ sym own_length), le-leb k 3 b, le-leb (length p) 4096 c, le-leb 4096 (length o) (omega arith)) in
     rw e at h
 
-module _ {S : Type 0} (a : Account S) (t : List ℕ) (w₀ : S) (over : Bool) (told : Told) (row m : List ℕ) (w : S) (G : Going a t w₀ over told row m w) where
+module _ {S : Type 0} {a : Account S} {t : List ℕ} {w₀ : S} {over : Bool} {told : Told} {row m : List ℕ} {w : S} (G : Going a t w₀ over told row m w) where
   -- one act more: these calls, these pieces, this event
   module _ (cs : List Call) (qs : List (List ℕ)) (ev : Event) (over₁ : Bool) (written₁ : List ℕ) (asked : Bool) (w₁ : S)
       (chain : Chain a w cs w₁)
@@ -117,7 +117,7 @@ module _ {S : Type 0} (a : Account S) (told₁ : Told) (row₁ m₁ : List ℕ) 
   asks_again h over e t w₀ G =
       let d = step_did m 2 q row told₁ m₁ row₁ lm (omega arith) lq lr h in
       let i : G.act ≡ more = act_is G.act More G.lent row G.says in
-      one_more a t w₀ over More row m w G [] [] no_more true G.written true w refl (λ fu o f. o refl)
+      one_more G [] [] no_more true G.written true w refl (λ fu o f. o refl)
       (λ fu o go. rw (i, o refl, e)) (λ fu o go. rw (i, o refl)) told₁ row₁ m₁ d.0 d.1
 
   -- the world has no more
@@ -127,7 +127,7 @@ module _ {S : Type 0} (a : Account S) (told₁ : Told) (row₁ m₁ : List ℕ) 
   asks_none w₁ l h over e t w₀ G =
       let d = step_did m 2 q row told₁ m₁ row₁ lm (omega arith) lq lr h in
       let i : G.act ≡ more = act_is G.act More G.lent row G.says in
-      one_more a t w₀ over More row m w G (ended ∷ []) [] no_more true G.written true w₁ (w₁, l, refl) (λ fu o f. cc)
+      one_more G (ended ∷ []) [] no_more true G.written true w₁ (w₁, l, refl) (λ fu o f. cc)
       (λ fu o go. rw (i, o refl, e)) (λ fu o go. rw (i, o refl)) told₁ row₁ m₁ d.0 d.1
 
   -- the world gives a piece
@@ -137,7 +137,7 @@ module _ {S : Type 0} (a : Account S) (told₁ : Told) (row₁ m₁ : List ℕ) 
   asks_piece w₁ l h over e t w₀ G =
       let d = step_did m 1 q row told₁ m₁ row₁ lm (omega arith) lq lr h in
       let i : G.act ≡ more = act_is G.act More G.lent row G.says in
-      one_more a t w₀ over More row m w G (took q ∷ []) (q ∷ []) (bytes q) over G.written true w₁ (w₁, l, refl) (λ fu o f. cc)
+      one_more G (took q ∷ []) (q ∷ []) (bytes q) over G.written true w₁ (w₁, l, refl) (λ fu o f. cc)
       (λ fu o go. rw (i, e)) (λ fu o go. rw i) told₁ row₁ m₁ d.0 d.1
 
 -- the first bytes of a row of bytes are one
@@ -157,7 +157,7 @@ unfolding event_of one_act
 writes_row a told₁ row₁ m₁ row m w w₁ n lm lr k l h over t w₀ G =
     let d = step_did m 3 [] row told₁ m₁ row₁ lm (omega arith) (omega arith) lr h in
     let i : G.act ≡ write (take n row) = act_is G.act (Write n) G.lent row G.says in
-    one_more a t w₀ over (Write n) row m w G (showed (take n row) ∷ []) [] next over (G.written ++ take n row) false w₁ (w₁, l, refl) (λ fu o e. o e)
+    one_more G (showed (take n row) ∷ []) [] next over (G.written ++ take n row) false w₁ (w₁, l, refl) (λ fu o e. o e)
     (λ fu o go. rw (i, k)) (λ fu o go. rw (i, k)) told₁ row₁ m₁ d.0 d.1
 
 -- the machine was told its program, and nothing else happened yet
@@ -184,10 +184,20 @@ starts a told row₁ m₁ row m t w e lr lt h =
       says = subst P e d.1;
     }
 
-module _ {S : Type 0} (a : Account S) (t : List ℕ) (w₀ : S) (over : Bool) (told : Told) (row m : List ℕ) (w : S) (G : Going a t w₀ over told row m w) where
+module _ {S : Type 0} {a : Account S} {t : List ℕ} {w₀ : S} {over : Bool} {told : Told} {row m : List ℕ} {w : S} (G : Going a t w₀ over told row m w) where
+  so_far : Reached a t w₀ 10000000 w
+  so_far = let P : List Call → Type 0 = λ cs. Chain a w₀ cs w in (G.n, G.ps, subst P (sym G.made) G.chain, G.busy)
+
   -- it is still going on
-  pub still : Reached a t w₀ 10000000 w
-  still = let P : List Call → Type 0 = λ cs. Chain a w₀ cs w in (G.n, G.ps, subst P (sym G.made) G.chain, G.busy)
+  pub goes_on : (E : Type 0) → EndedSo {E = E} a t w₀ (Err Endless) w
+  unfolding EndedSo
+  goes_on E = so_far
+
+  -- the world failed: the run had come to a world before that
+  pub broke : {E : Type 0} (w₁ : S) (e : E) (r : Result ℕ (Failure E)) → IsErrAnd r (λ f. f ≡ Broken e) → EndedSo a t w₀ r w₁
+  unfolding EndedSo
+  broke w₁ e (Ok k) h = absurd h
+  broke {E} w₁ e (Err f) h = let P : Failure E → Type 0 = λ g. EndedSo a t w₀ (Err g) w₁ in subst P (sym h) (w, so_far)
 
   -- an act that makes no call ends it
   last_act : (end : ℕ) → ((go : List ℕ → Event → List (List ℕ) → Bool → List Call) → obeyed go [] over m G.act ≡ []) →
@@ -197,15 +207,15 @@ module _ {S : Type 0} (a : Account S) (t : List ℕ) (w₀ : S) (over : Bool) (t
       let h = G.calls_on [] 0 (λ o. refl) ∙ ap (λ z. G.log ++ z) (no_call (λ m₁ ev₁ ps₁ over₁. calls 0 own m₁ ev₁ ps₁ over₁)) ∙ append-nil G.log in
       (G.n + 1, G.ps ++ [], subst P (sym h) G.chain, ap (λ r. r.end) (G.runs_on [] 0 (λ o. refl)) ∙ at_end (λ m₁ ev₁ ps₁ w₁ g₁ a₁. runs 0 own m₁ ev₁ ps₁ w₁ g₁ a₁))
 
-  pub done_with : (k : ℕ) → told ≡ Done k → Reached a t w₀ (done_end k) w
-  unfolding one_act
-  done_with k e =
+  pub done_with : (E : Type 0) (k : ℕ) → told ≡ Done k → EndedSo {E = E} a t w₀ (Ok k) w
+  unfolding one_act EndedSo
+  done_with E k e =
       let i : G.act ≡ done k = act_is G.act told G.lent row G.says ∙ ap (λ x. act_of x row) e in
       last_act (done_end k) (λ go. rw i) (λ go. rw i)
 
-  pub refused_with : (k : ℕ) → told ≡ No k → Reached a t w₀ (refused_end k) w
-  unfolding one_act
-  refused_with k e =
+  pub refused_with : (E : Type 0) (k : ℕ) → told ≡ No k → EndedSo {E = E} a t w₀ (Err (Refused k)) w
+  unfolding one_act EndedSo
+  refused_with E k e =
       let i : G.act ≡ refused k = act_is G.act told G.lent row G.says ∙ ap (λ x. act_of x row) e in
       last_act (refused_end k) (λ go. rw i) (λ go. rw i)
 
@@ -214,13 +224,6 @@ module _ {S : Type 0} (a : Account S) (t : List ℕ) (w₀ : S) (over : Bool) (t
   write_within n e =
       let P : Told → Type 0 = λ x. ActTold G.act x G.lent row in
       within G.act n G.lent row (subst P e G.says)
-
--- the world failed: the run had come to a world before that
-pub broke : {S E : Type 0} (a : Account S) (t : List ℕ) (w₀ w : S) (e : E) (r : Result ℕ (Failure E)) → IsErrAnd r (λ f. f ≡ Broken e) →
-    (w₁ : S) → Reached a t w₀ 10000000 w₁ → EndedSo a t w₀ r w
-unfolding EndedSo
-broke a t w₀ w e (Ok k) h w₁ x = absurd h
-broke {S} {E} a t w₀ w e (Err f) h w₁ x = let P : Failure E → Type 0 = λ g. EndedSo a t w₀ (Err g) w in subst P (sym h) (w₁, x)
 
 -- what is shown is what is written: act by act, from what was written before
 module _ (e : Engine) where

@@ -1,29 +1,27 @@
 use Rattle.std.proofs.Common.{refl, arith}
-use Rattle.machine.specs.Drive.{EndedSo}
-use Rattle.machine.proofs.Driving.{starts, still, broke, done_with, refused_with, write_within}
+use Rattle.machine.proofs.Driving.{starts, goes_on, broke, done_with, refused_with, write_within}
 use Rattle.machine.proofs.drive.Driver.run.Goals as goal
 
 pub loop-init : goal.loop-init
-loop-init g c = record { same_world = refl; going = rw c.requires.fresh (starts g.W.World.account _ _ _ _ _ _ _ c.requires.start (omega arith) c.requires.short c.step-told.ensures.says) }
+loop-init g c = record {
+  same_world = refl;
+  going = rw c.requires.fresh (starts g.W.World.account _ _ _ _ _ _ _ c.requires.start (omega arith) c.requires.short c.step-told.ensures.says);
+}
 
 pub put-requires : goal.put-requires
-put-requires g c = write_within _ _ _ _ _ _ _ _ c.loop.invariant.going c.in-Write.n c.in-Write.is
+put-requires g c = write_within c.loop.invariant.going c.in-Write.n c.in-Write.is
 
 pub returns-in-Done-clause-ended : goal.returns-in-Done-clause-ended
-unfolding EndedSo
-returns-in-Done-clause-ended g c = done_with _ _ _ _ _ _ _ _ c.loop.invariant.going _ c.in-Done.is
+returns-in-Done-clause-ended g c = done_with c.loop.invariant.going _ _ c.in-Done.is
 
 pub returns-in-No-clause-ended : goal.returns-in-No-clause-ended
-unfolding EndedSo
-returns-in-No-clause-ended g c = refused_with _ _ _ _ _ _ _ _ c.loop.invariant.going _ c.in-No.is
+returns-in-No-clause-ended g c = refused_with c.loop.invariant.going _ _ c.in-No.is
 
 pub returns-in_err-told-in-More-clause-ended : goal.returns-in_err-told-in-More-clause-ended
-returns-in_err-told-in-More-clause-ended g c = broke _ _ _ _ _ _ c.from_residual.ensures.1 _ (still _ _ _ _ _ _ _ _ c.loop.invariant.going)
+returns-in_err-told-in-More-clause-ended g c = broke c.loop.invariant.going _ _ _ c.from_residual.ensures.1
 
 pub returns-in_err-told-in-Write-clause-ended : goal.returns-in_err-told-in-Write-clause-ended
-returns-in_err-told-in-Write-clause-ended g c =
-    broke _ _ _ _ _ _ c.from_residual-in_err-told-in-Write.ensures.1 _ (still _ _ _ _ _ _ _ _ c.loop.invariant.going)
+returns-in_err-told-in-Write-clause-ended g c = broke c.loop.invariant.going _ _ _ c.from_residual-in_err-told-in-Write.ensures.1
 
 pub returns-clause-ended : goal.returns-clause-ended
-unfolding EndedSo
-returns-clause-ended g c = still _ _ _ _ _ _ _ _ c.loop.invariant.going
+returns-clause-ended g c = goes_on c.loop.invariant.going _
