@@ -77,8 +77,7 @@ impl<'a> Event<'a> {
         ensures { result ≡ length (bytes_of self.entry) }
     {
         match self {
-            Event::Program(text) => text.len(),
-            Event::Piece(piece) => piece.len(),
+            Event::Program(bytes) | Event::Piece(bytes) => bytes.len(),
             Event::NoMore | Event::Next => 0,
         }
     }
