@@ -13,7 +13,7 @@ use Rattle.store.specs.Space.{space, text_of}
 use Rattle.store.proofs.Packing.{length_unpacked}
 use Rattle.store.proofs.Putting.{puts_append}
 use Rattle.regions.specs.Parts.{Parts, part, parts, with_lines}
-use Rattle.regions.specs.declared.fields.Place.{Place}
+use Rattle.store.specs.declared.place.Place.{Place}
 use Rattle.regions.specs.Places.{place_of}
 use Rattle.regions.proofs.Regions.{part_length}
 use Rattle.lines.specs.declared.line.Line.{Line}

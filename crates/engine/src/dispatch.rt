@@ -4,6 +4,7 @@ ghost use Rattle.regions.specs.Parts.{parts};
 ghost use Rattle.interp.specs.Turns.{Did};
 ghost use Rattle.engine.specs.Dispatch.{fetched, performed, text_printed, turned, turned_text, lent_after};
 
+use regions::Memory;
 use crate::prints::{begin_line, begin_values};
 use crate::setting::set_field;
 use interp::between::next_line;
@@ -20,16 +21,15 @@ use interp::{Turn, UNKNOWN};
 use regions::code_at;
 
 // The next operation of the code.
-fn fetch(mem: &[u64], regs: &Registers) -> Op
-    requires { length mem.now ≡ 262144 }
+fn fetch(mem: &Memory, regs: &Registers) -> Op
     ensures { result ≡ fetched (parts mem.now) regs.now }
 {
     decode(code_at(mem, regs.pc))
 }
 
 // An operation.
-fn perform(mem: &mut [u64], regs: &mut Registers, op: Op, out: &mut [u8]) -> Turn
-    requires { (length mem.old ≡ 262144) × (4096 ≤ length out.old) }
+fn perform(mem: &mut Memory, regs: &mut Registers, op: Op, out: &mut [u8]) -> Turn
+    requires { 4096 ≤ length out.old }
     ensures did { ◌≡◌ {A = Did} (record { mem = parts mem.exit.now; regs = regs.new; turn = result }) (performed op (parts mem.entry.now) regs.old) }
     ensures row { out.new ≡ lent_after out.old regs.old.used (text_printed op (parts mem.old) regs.old) }
 {
@@ -61,8 +61,8 @@ fn perform(mem: &mut [u64], regs: &mut Registers, op: Op, out: &mut [u8]) -> Tur
 }
 
 // One turn. What it prints goes behind what is used of the row, as much of it as has room.
-pub fn turn(mem: &mut [u64], regs: &mut Registers, out: &mut [u8]) -> Turn
-    requires { (length mem.old ≡ 262144) × (4096 ≤ length out.old) }
+pub fn turn(mem: &mut Memory, regs: &mut Registers, out: &mut [u8]) -> Turn
+    requires { 4096 ≤ length out.old }
     ensures did { ◌≡◌ {A = Did} (record { mem = parts mem.exit.now; regs = regs.new; turn = result }) (turned (parts mem.entry.now) regs.old) }
     ensures row { out.new ≡ lent_after out.old regs.old.used (turned_text (parts mem.old) regs.old) }
 {

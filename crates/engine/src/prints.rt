@@ -6,6 +6,7 @@ ghost use Rattle.interp.specs.Turns.{Did};
 ghost use Rattle.engine.specs.Prints.{few, advanced, released, print_parts, print_regs, printed_so, line_text, values_text, line_printed, values_printed, pending_left, resumed};
 ghost use Rattle.engine.specs.Dispatch.{lent_after};
 
+use regions::Memory;
 use interp::Turn;
 use interp::registers::{Print, Registers};
 use interp::stack::advance;
@@ -14,8 +15,7 @@ use regions::texts::release_value;
 use rows::{Printed, print_line, print_values};
 
 // Lets n values go, from the top of a stack of this depth down.
-fn release_values(mem: &mut [u64], depth: usize, n: usize)
-    requires { length mem.old ≡ 262144 }
+fn release_values(mem: &mut Memory, depth: usize, n: usize)
     ensures { parts mem.new ≡ released (parts mem.old) depth n }
 {
     for i in 0..n {
@@ -25,8 +25,7 @@ fn release_values(mem: &mut [u64], depth: usize, n: usize)
 }
 
 // A print of n values has come so far: when it is finished its values go, otherwise the rest waits for the next row.
-fn end_print(mem: &mut [u64], regs: &mut Registers, n: usize, printed: Printed)
-    requires { length mem.old ≡ 262144 }
+fn end_print(mem: &mut Memory, regs: &mut Registers, n: usize, printed: Printed)
     ensures memory { parts mem.new ≡ print_parts (parts mem.old) regs.old n printed }
     ensures regs { regs.new ≡ print_regs regs.old n printed }
 {
@@ -44,8 +43,7 @@ fn end_print(mem: &mut [u64], regs: &mut Registers, n: usize, printed: Printed)
 }
 
 // A print of n values began and has come so far: the code goes on behind it.
-fn begin_print(mem: &mut [u64], regs: &mut Registers, n: usize, printed: Printed) -> Turn
-    requires { length mem.old ≡ 262144 }
+fn begin_print(mem: &mut Memory, regs: &mut Registers, n: usize, printed: Printed) -> Turn
     ensures { ◌≡◌ {A = Did} (record { mem = parts mem.exit.now; regs = regs.new; turn = result }) (printed_so (parts mem.entry.now) (advanced regs.old) n printed) }
 {
     advance(regs);
@@ -54,8 +52,8 @@ fn begin_print(mem: &mut [u64], regs: &mut Registers, n: usize, printed: Printed
 }
 
 // A print of the line begins.
-pub fn begin_line(mem: &mut [u64], regs: &mut Registers, out: &mut [u8]) -> Turn
-    requires { (length mem.old ≡ 262144) × (4096 ≤ length out.old) }
+pub fn begin_line(mem: &mut Memory, regs: &mut Registers, out: &mut [u8]) -> Turn
+    requires { 4096 ≤ length out.old }
     ensures did { ◌≡◌ {A = Did} (record { mem = parts mem.exit.now; regs = regs.new; turn = result }) (line_printed (parts mem.entry.now) regs.old) }
     ensures row { out.new ≡ over_row out.old regs.old.used (line_text (parts mem.old) regs.old) }
 {
@@ -64,8 +62,8 @@ pub fn begin_line(mem: &mut [u64], regs: &mut Registers, out: &mut [u8]) -> Turn
 }
 
 // A print of the n topmost values begins, or of as many as fit on the stack.
-pub fn begin_values(mem: &mut [u64], regs: &mut Registers, n: usize, out: &mut [u8]) -> Turn
-    requires { (length mem.old ≡ 262144) × (4096 ≤ length out.old) }
+pub fn begin_values(mem: &mut Memory, regs: &mut Registers, n: usize, out: &mut [u8]) -> Turn
+    requires { 4096 ≤ length out.old }
     ensures did { ◌≡◌ {A = Did} (record { mem = parts mem.exit.now; regs = regs.new; turn = result }) (values_printed (parts mem.entry.now) regs.old (few n)) }
     ensures row { out.new ≡ over_row out.old regs.old.used (values_text (parts mem.old) regs.old (few n)) }
 {
@@ -75,8 +73,8 @@ pub fn begin_values(mem: &mut [u64], regs: &mut Registers, n: usize, out: &mut [
 }
 
 // A print that is not finished goes on, if there is one.
-pub fn resume(mem: &mut [u64], regs: &mut Registers, out: &mut [u8])
-    requires { (length mem.old ≡ 262144) × (4096 ≤ length out.old) }
+pub fn resume(mem: &mut Memory, regs: &mut Registers, out: &mut [u8])
+    requires { 4096 ≤ length out.old }
     ensures memory { parts mem.new ≡ (resumed (parts mem.old) regs.old).mem }
     ensures regs { regs.new ≡ (resumed (parts mem.old) regs.old).regs }
     ensures row { out.new ≡ lent_after out.old regs.old.used (pending_left (parts mem.old) regs.old) }

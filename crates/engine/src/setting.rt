@@ -8,6 +8,7 @@ ghost use Rattle.interp.specs.Turns.{Did};
 ghost use Rattle.interp.specs.Texts.{text_in};
 ghost use Rattle.engine.specs.Setting.{relined, line_set, nth_set, field_set};
 
+use regions::Memory;
 use interp::registers::Registers;
 use interp::stack::{drop_top, top, under};
 use interp::texts::text_len;
@@ -50,8 +51,7 @@ fn count_fields<T: Bytes>(t: &T) -> usize
 }
 
 // How many fields the text of a value has.
-fn fields_in(mem: &[u64], v: Value) -> usize
-    requires { length mem.now ≡ 262144 }
+fn fields_in(mem: &Memory, v: Value) -> usize
     ensures { result ≡ length (fields_from [] (text_in (parts mem.now) v)) }
 {
     match v {
@@ -63,8 +63,7 @@ fn fields_in(mem: &[u64], v: Value) -> usize
 }
 
 // The next few bytes of a text, from byte `at` of it on, go into the region of lines, from byte `to` on.
-fn lay_chunk(mem: &mut [u64], h: Handle, at: usize, to: usize)
-    requires { length mem.old ≡ 262144 }
+fn lay_chunk(mem: &mut Memory, h: Handle, at: usize, to: usize)
     ensures { parts mem.new ≡ with_lines (parts mem.old) (put_bytes (parts mem.old).lines to (take 64 (drop at (text_of 77822 (parts mem.old).texts h.index)))) }
 {
     let mut row = [0u8; CHUNK];
@@ -73,8 +72,8 @@ fn lay_chunk(mem: &mut [u64], h: Handle, at: usize, to: usize)
 }
 
 // The bytes of a text go into the region of lines, from byte `to` on.
-fn lay_text(mem: &mut [u64], h: Handle, to: usize)
-    requires { (length mem.old ≡ 262144) × (to < 2 ^ 63) }
+fn lay_text(mem: &mut Memory, h: Handle, to: usize)
+    requires { to < 2 ^ 63 }
     ensures { parts mem.new ≡ with_lines (parts mem.old) (put_bytes (parts mem.old).lines to (text_of 77822 (parts mem.old).texts h.index)) }
 {
     let n = text_view(mem, h).len();
@@ -86,8 +85,8 @@ fn lay_text(mem: &mut [u64], h: Handle, to: usize)
 }
 
 // The text of a value goes into the region of lines, from byte `to` on.
-fn lay_value(mem: &mut [u64], v: Value, to: usize)
-    requires { (length mem.old ≡ 262144) × (to < 2 ^ 63) }
+fn lay_value(mem: &mut Memory, v: Value, to: usize)
+    requires { to < 2 ^ 63 }
     ensures { parts mem.new ≡ with_lines (parts mem.old) (put_bytes (parts mem.old).lines to (text_in (parts mem.old) v)) }
 {
     match v {
@@ -99,8 +98,7 @@ fn lay_value(mem: &mut [u64], v: Value, to: usize)
 }
 
 // A line that was made anew is the current one; the field's number goes.
-fn take_line(mem: &mut [u64], regs: &mut Registers, line: Line) -> Turn
-    requires { length mem.old ≡ 262144 }
+fn take_line(mem: &mut Memory, regs: &mut Registers, line: Line) -> Turn
     ensures { ◌≡◌ {A = Did} (record { mem = parts mem.exit.now; regs = regs.new; turn = result }) (relined (parts mem.entry.now) regs.old line) }
 {
     regs.line = line;
@@ -108,8 +106,7 @@ fn take_line(mem: &mut [u64], regs: &mut Registers, line: Line) -> Turn
 }
 
 // `$0` becomes the text of a value. What may be refused is looked for before anything is changed.
-fn set_line(mem: &mut [u64], regs: &mut Registers, v: Value) -> Turn
-    requires { length mem.old ≡ 262144 }
+fn set_line(mem: &mut Memory, regs: &mut Registers, v: Value) -> Turn
     ensures { ◌≡◌ {A = Did} (record { mem = parts mem.exit.now; regs = regs.new; turn = result }) (line_set (parts mem.entry.now) regs.old (text_in (parts mem.entry.now) v)) }
 {
     let len = text_len(mem, v);
@@ -129,8 +126,7 @@ fn set_line(mem: &mut [u64], regs: &mut Registers, v: Value) -> Turn
 }
 
 // Field k, which is not 0, becomes the text of a value.
-fn set_nth(mem: &mut [u64], regs: &mut Registers, k: usize, v: Value) -> Turn
-    requires { length mem.old ≡ 262144 }
+fn set_nth(mem: &mut Memory, regs: &mut Registers, k: usize, v: Value) -> Turn
     ensures { ◌≡◌ {A = Did} (record { mem = parts mem.exit.now; regs = regs.new; turn = result }) (nth_set (parts mem.entry.now) regs.old k (text_in (parts mem.entry.now) v)) }
 {
     let len = text_len(mem, v);
@@ -145,8 +141,7 @@ fn set_nth(mem: &mut [u64], regs: &mut Registers, k: usize, v: Value) -> Turn
 }
 
 // The field whose number is on top becomes the value under it.
-pub fn set_field(mem: &mut [u64], regs: &mut Registers) -> Turn
-    requires { length mem.old ≡ 262144 }
+pub fn set_field(mem: &mut Memory, regs: &mut Registers) -> Turn
     ensures { ◌≡◌ {A = Did} (record { mem = parts mem.exit.now; regs = regs.new; turn = result }) (field_set (parts mem.entry.now) regs.old) }
 {
     let number = top(mem, regs);

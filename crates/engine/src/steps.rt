@@ -4,6 +4,7 @@ ghost use Rattle.semantics.specs.Engine.{loop, goes_by};
 ghost use Rattle.engine.specs.Scenes.{taken_in, halt_of, machine_parts};
 ghost use Rattle.engine.specs.Steps.{told_of, scene_in, PutBehind, answer_of, Answers};
 
+use regions::Memory;
 use crate::dispatch::turn;
 use crate::prints::resume;
 use crate::{Answer, Event};
@@ -16,8 +17,8 @@ use rows::ROW;
 const TURNS: usize = 16_384;
 
 // What is told is taken in; these are the registers with which turns begin.
-fn begin(mem: &mut [u64], event: Event, out: &mut [u8]) -> Registers
-    requires { (length mem.old ≡ 262144) × (4096 ≤ length out.old) }
+fn begin(mem: &mut Memory, event: Event, out: &mut [u8]) -> Registers
+    requires { 4096 ≤ length out.old }
     ensures scene { scene_in mem.new result out.new ≡ taken_in mem.old (told_of event.entry) }
     ensures row { PutBehind out.old 0 out.new result.used }
 {
@@ -31,8 +32,8 @@ fn begin(mem: &mut [u64], event: Event, out: &mut [u8]) -> Registers
 }
 
 // Up to so many turns; fewer if the row is full, or one of them asks, ends or refuses, which is said.
-fn turns(mem: &mut [u64], regs: &mut Registers, out: &mut [u8], budget: usize) -> Turn
-    requires { (length mem.old ≡ 262144) × ((4096 ≤ length out.old) × (regs.old.used ≤ 4096)) }
+fn turns(mem: &mut Memory, regs: &mut Registers, out: &mut [u8], budget: usize) -> Turn
+    requires { (4096 ≤ length out.old) × (regs.old.used ≤ 4096) }
     ensures halt { halt_of result (scene_in mem.new regs.new out.new) ≡ loop machine_parts budget (scene_in mem.old regs.old out.old) }
     ensures row { PutBehind out.old regs.old.used out.new regs.new.used }
 {
@@ -66,8 +67,8 @@ fn answer(turn: Turn, used: usize) -> Answer
 }
 
 // One step. What is to be written stands at the front of `out`.
-pub fn work(mem: &mut [u64], event: Event, out: &mut [u8]) -> Answer
-    requires { (length mem.old ≡ 262144) × (4096 ≤ length out.old) }
+pub fn work(mem: &mut Memory, event: Event, out: &mut [u8]) -> Answer
+    requires { 4096 ≤ length out.old }
     ensures memory { mem.new ≡ (goes_by machine_parts mem.old (told_of event.entry)).memory }
     ensures act { Answers (goes_by machine_parts mem.old (told_of event.entry)).act result out.old out.new }
 {

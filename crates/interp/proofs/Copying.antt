@@ -17,7 +17,7 @@ use Rattle.store.proofs.Packing.{length_unpacked}
 use Rattle.store.proofs.Putting.{puts_append}
 use Rattle.store.proofs.Moving.{window_part}
 use Rattle.regions.specs.Parts.{Parts, parts, with_texts}
-use Rattle.regions.specs.declared.fields.Place.{Place}
+use Rattle.store.specs.declared.place.Place.{Place}
 use Rattle.regions.proofs.Regions.{lines_length}
 use Rattle.interp.specs.declared.registers.Registers.{Registers}
 use Rattle.interp.specs.Turns.{top_of, worth_in}

@@ -4,6 +4,7 @@ ghost use Rattle.regions.specs.Parts.{parts};
 ghost use Rattle.interp.specs.Turns.{Did};
 ghost use Rattle.interp.specs.Between.{started_regs, started_turn, closing, waited_regs, waited_turn, last_taken, line_sought, line_next};
 
+use regions::Memory;
 use crate::registers::{Registers, Stage};
 use crate::{LENGTH, NO_ROOM, Turn};
 use lines::cutting::len_at;
@@ -61,8 +62,7 @@ fn wait(regs: &mut Registers, input: Input) -> Turn
 }
 
 // The end was told: what waits is the last line, if there is something.
-fn take_last(mem: &mut [u64], regs: &mut Registers, input: Input) -> Turn
-    requires { length mem.old ≡ 262144 }
+fn take_last(mem: &mut Memory, regs: &mut Registers, input: Input) -> Turn
     ensures { ◌≡◌ {A = Did} (record { mem = parts mem.exit.now; regs = regs.new; turn = result }) (last_taken (parts mem.entry.now) regs.old input) }
 {
     let mut rest = input;
@@ -76,8 +76,7 @@ fn take_last(mem: &mut [u64], regs: &mut Registers, input: Input) -> Turn
 }
 
 // Looks for the next line. Where that is refused, the registers are as they were, so that it would be found again.
-fn seek_line(mem: &mut [u64], regs: &mut Registers) -> Turn
-    requires { length mem.old ≡ 262144 }
+fn seek_line(mem: &mut Memory, regs: &mut Registers) -> Turn
     ensures { ◌≡◌ {A = Did} (record { mem = parts mem.exit.now; regs = regs.new; turn = result }) (line_sought (parts mem.entry.now) regs.old) }
 {
     let mut input = regs.input;
@@ -94,8 +93,7 @@ fn seek_line(mem: &mut [u64], regs: &mut Registers) -> Turn
 }
 
 // The next line with its rules, or the rules for the end, or the end of the run.
-pub fn next_line(mem: &mut [u64], regs: &mut Registers) -> Turn
-    requires { length mem.old ≡ 262144 }
+pub fn next_line(mem: &mut Memory, regs: &mut Registers) -> Turn
     ensures { ◌≡◌ {A = Did} (record { mem = parts mem.exit.now; regs = regs.new; turn = result }) (line_next (parts mem.entry.now) regs.old) }
 {
     match regs.stage {

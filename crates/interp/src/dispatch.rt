@@ -4,6 +4,7 @@ ghost use Rattle.regions.specs.Parts.{parts};
 ghost use Rattle.interp.specs.Turns.{Did};
 ghost use Rattle.interp.specs.Dispatch.{fetched, performed, turned};
 
+use regions::Memory;
 use crate::between::next_line;
 use crate::comparing::compare_two;
 use crate::fields::get_field;
@@ -18,16 +19,14 @@ use crate::{Turn, UNKNOWN};
 use regions::code_at;
 
 // The next operation of the code.
-pub fn fetch(mem: &[u64], regs: &Registers) -> Op
-    requires { length mem.now ≡ 262144 }
+pub fn fetch(mem: &Memory, regs: &Registers) -> Op
     ensures { result ≡ fetched (parts mem.now) regs.now }
 {
     decode(code_at(mem, regs.pc))
 }
 
 // An operation. Prints and the setting of fields are done elsewhere, and are unknown here.
-pub fn perform(mem: &mut [u64], regs: &mut Registers, op: Op) -> Turn
-    requires { length mem.old ≡ 262144 }
+pub fn perform(mem: &mut Memory, regs: &mut Registers, op: Op) -> Turn
     ensures { ◌≡◌ {A = Did} (record { mem = parts mem.exit.now; regs = regs.new; turn = result }) (performed op (parts mem.entry.now) regs.old) }
 {
     match op {
@@ -58,8 +57,7 @@ pub fn perform(mem: &mut [u64], regs: &mut Registers, op: Op) -> Turn
 }
 
 // One turn, where the operation is none that is done elsewhere.
-pub fn turn(mem: &mut [u64], regs: &mut Registers) -> Turn
-    requires { length mem.old ≡ 262144 }
+pub fn turn(mem: &mut Memory, regs: &mut Registers) -> Turn
     ensures { ◌≡◌ {A = Did} (record { mem = parts mem.exit.now; regs = regs.new; turn = result }) (turned (parts mem.entry.now) regs.old) }
 {
     if regs.running {

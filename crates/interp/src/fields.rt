@@ -7,6 +7,7 @@ ghost use Rattle.regions.specs.Parts.{parts, with_texts};
 ghost use Rattle.interp.specs.Turns.{Did};
 ghost use Rattle.interp.specs.Fields.{field_place, field_got};
 
+use regions::Memory;
 use crate::registers::Registers;
 use crate::stack::{replace_top, top};
 use crate::texts::short_packed;
@@ -30,8 +31,8 @@ const CHUNK: usize = 64;
 const SHORTEST: usize = 8;
 
 // A few bytes of the region of lines go into a text, from byte `at` on.
-fn copy_chunk(mem: &mut [u64], h: Handle, at: usize, place: Place)
-    requires { (length mem.old ≡ 262144) × (place.len ≤ 64) }
+fn copy_chunk(mem: &mut Memory, h: Handle, at: usize, place: Place)
+    requires { place.len ≤ 64 }
     ensures { parts mem.new ≡ with_texts (parts mem.old) (written 77822 (parts mem.old).texts h.index at (window place.start place.len (parts mem.old).lines)) }
 {
     let mut row = [0u8; CHUNK];
@@ -40,8 +41,7 @@ fn copy_chunk(mem: &mut [u64], h: Handle, at: usize, place: Place)
 }
 
 // The bytes at a place of the region of lines go into a text.
-fn copy_line(mem: &mut [u64], h: Handle, place: Place)
-    requires { length mem.old ≡ 262144 }
+fn copy_line(mem: &mut Memory, h: Handle, place: Place)
     ensures { parts mem.new ≡ with_texts (parts mem.old) (written 77822 (parts mem.old).texts h.index 0 (window place.start place.len (parts mem.old).lines)) }
 {
     let n = len_at(place);
@@ -55,8 +55,7 @@ fn copy_line(mem: &mut [u64], h: Handle, place: Place)
 }
 
 // A new value with the bytes at a place of the region of lines, or none, if there is no room.
-fn line_value(mem: &mut [u64], place: Place) -> Option<Value>
-    requires { length mem.old ≡ 262144 }
+fn line_value(mem: &mut Memory, place: Place) -> Option<Value>
     ensures memory { parts mem.new ≡ with_texts (parts mem.old) (made 20480 77822 (parts mem.old).texts (window place.start place.len (parts mem.old).lines)).space }
     ensures value { result ≡ (made 20480 77822 (parts mem.old).texts (window place.start place.len (parts mem.old).lines)).value }
 {
@@ -74,8 +73,7 @@ fn line_value(mem: &mut [u64], place: Place) -> Option<Value>
 }
 
 // Where field k of a line is; field 0 is the line.
-fn place_of(mem: &[u64], line: Line, k: usize) -> Place
-    requires { length mem.now ≡ 262144 }
+fn place_of(mem: &Memory, line: Line, k: usize) -> Place
     ensures { result ≡ field_place (parts mem.now).fields line k }
 {
     if k == 0 {
@@ -86,8 +84,7 @@ fn place_of(mem: &[u64], line: Line, k: usize) -> Place
 }
 
 // The field whose number is on top.
-pub fn get_field(mem: &mut [u64], regs: &mut Registers) -> Turn
-    requires { length mem.old ≡ 262144 }
+pub fn get_field(mem: &mut Memory, regs: &mut Registers) -> Turn
     ensures { ◌≡◌ {A = Did} (record { mem = parts mem.exit.now; regs = regs.new; turn = result }) (field_got (parts mem.entry.now) regs.old) }
 {
     let v = top(mem, regs);

@@ -6,6 +6,7 @@ ghost use Rattle.store.specs.declared.cells.Value.TheVariants.{Number};
 ghost use Rattle.interp.specs.Turns.{Did, under_of, top_of};
 ghost use Rattle.interp.specs.Numbers.{troubled, figured, figured_one};
 
+use regions::Memory;
 use crate::registers::Registers;
 use crate::stack::{cover_two, replace_top, top, under};
 use crate::worth::number_in;
@@ -25,8 +26,8 @@ fn refusal(trouble: Trouble) -> Turn
 }
 
 // A number from the two on top, which are numbers.
-fn reckon_numbers(mem: &mut [u64], regs: &mut Registers, c: Arithmetic, a: i64, b: i64) -> Turn
-    requires { (length mem.old ≡ 262144) × ((Number a ≡ under_of (parts mem.old) regs.old) × (Number b ≡ top_of (parts mem.old) regs.old)) }
+fn reckon_numbers(mem: &mut Memory, regs: &mut Registers, c: Arithmetic, a: i64, b: i64) -> Turn
+    requires { (Number a ≡ under_of (parts mem.old) regs.old) × (Number b ≡ top_of (parts mem.old) regs.old) }
     ensures { ◌≡◌ {A = Did} (record { mem = parts mem.exit.now; regs = regs.new; turn = result }) (figured (operation c) (parts mem.entry.now) regs.old) }
 {
     match calculate(c, a, b) {
@@ -37,13 +38,13 @@ fn reckon_numbers(mem: &mut [u64], regs: &mut Registers, c: Arithmetic, a: i64, 
 
 // A number from the two on top, which the caller has read.
 fn reckon_values(
-    mem: &mut [u64],
+    mem: &mut Memory,
     regs: &mut Registers,
     c: Arithmetic,
     first: Value,
     second: Value,
 ) -> Turn
-    requires { (length mem.old ≡ 262144) × ((first ≡ under_of (parts mem.old) regs.old) × (second ≡ top_of (parts mem.old) regs.old)) }
+    requires { (first ≡ under_of (parts mem.old) regs.old) × (second ≡ top_of (parts mem.old) regs.old) }
     ensures { ◌≡◌ {A = Did} (record { mem = parts mem.exit.now; regs = regs.new; turn = result }) (figured (operation c) (parts mem.entry.now) regs.old) }
 {
     let m = number_in(mem, first);
@@ -59,8 +60,7 @@ fn reckon_values(
 }
 
 // A number from the two on top, which mostly are numbers.
-pub fn reckon(mem: &mut [u64], regs: &mut Registers, c: Arithmetic) -> Turn
-    requires { length mem.old ≡ 262144 }
+pub fn reckon(mem: &mut Memory, regs: &mut Registers, c: Arithmetic) -> Turn
     ensures { ◌≡◌ {A = Did} (record { mem = parts mem.exit.now; regs = regs.new; turn = result }) (figured (operation c) (parts mem.entry.now) regs.old) }
 {
     let first = under(mem, regs);
@@ -72,8 +72,7 @@ pub fn reckon(mem: &mut [u64], regs: &mut Registers, c: Arithmetic) -> Turn
 }
 
 // The opposite of the number on top.
-pub fn oppose(mem: &mut [u64], regs: &mut Registers) -> Turn
-    requires { length mem.old ≡ 262144 }
+pub fn oppose(mem: &mut Memory, regs: &mut Registers) -> Turn
     ensures { ◌≡◌ {A = Did} (record { mem = parts mem.exit.now; regs = regs.new; turn = result }) (figured_one 1 (parts mem.entry.now) regs.old) }
 {
     let v = top(mem, regs);

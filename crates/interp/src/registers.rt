@@ -3,6 +3,7 @@ ghost use Rattle.std.specs.Prelude.{◌≡◌, ◌++◌, length};
 ghost use Rattle.regions.specs.Parts.{parts, with_registers};
 ghost use Rattle.interp.specs.Registers.{stage_of, line_in, input_in, print_in, registers_in, row_of, saved_row, RegistersComeBack};
 
+use regions::Memory;
 use lines::cutting::Cut;
 use lines::input::Input;
 use lines::line::Line;
@@ -119,8 +120,7 @@ fn registers_in(words: &[u64]) -> Registers
 }
 
 // The registers, as memory has them when a step begins.
-pub fn load_registers(mem: &[u64]) -> Registers
-    requires { length mem.now ≡ 262144 }
+pub fn load_registers(mem: &Memory) -> Registers
     ensures { result ≡ registers_in (parts mem.now).registers }
 {
     registers_in(&mem[0..WORDS])
@@ -159,8 +159,7 @@ fn save_row(words: &mut [u64], row: &[u64])
 }
 
 // Puts the registers where memory keeps them between steps.
-pub fn save_registers(mem: &mut [u64], regs: Registers)
-    requires { length mem.old ≡ 262144 }
+pub fn save_registers(mem: &mut Memory, regs: Registers)
     ensures { parts mem.new ≡ with_registers (parts mem.old) (saved_row (row_of regs) (parts mem.old).registers) }
 {
     let row = row_of(regs);

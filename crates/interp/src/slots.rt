@@ -6,6 +6,7 @@ ghost use Rattle.interp.specs.declared.Turn.TheVariants.{On};
 ghost use Rattle.interp.specs.Turns.{Did, says, releasing, placed, after};
 ghost use Rattle.interp.specs.Slots.{slot_of, slotting, loaded, kept_in, line_counted, fields_counted};
 
+use regions::Memory;
 use crate::Turn;
 use crate::registers::Registers;
 use crate::stack::{advance, push, top};
@@ -14,8 +15,7 @@ use regions::texts::{hold_value, release_value};
 use store::cells::Value;
 
 // The value of a slot comes onto the stack.
-pub fn load_slot(mem: &mut [u64], regs: &mut Registers, i: usize) -> Turn
-    requires { length mem.old ≡ 262144 }
+pub fn load_slot(mem: &mut Memory, regs: &mut Registers, i: usize) -> Turn
     ensures { ◌≡◌ {A = Did} (record { mem = parts mem.exit.now; regs = regs.new; turn = result }) (loaded (parts mem.entry.now) regs.old i) }
 {
     let v = slot(mem, i);
@@ -23,8 +23,7 @@ pub fn load_slot(mem: &mut [u64], regs: &mut Registers, i: usize) -> Turn
 }
 
 // A number goes into a slot; there is no text to hold.
-fn save_number(mem: &mut [u64], regs: &mut Registers, i: usize, n: i64) -> Turn
-    requires { length mem.old ≡ 262144 }
+fn save_number(mem: &mut Memory, regs: &mut Registers, i: usize, n: i64) -> Turn
     ensures { ◌≡◌ {A = Did} (record { mem = parts mem.exit.now; regs = regs.new; turn = result }) (says On (slotting (releasing (parts mem.entry.now) (slot_of (parts mem.entry.now) i)) i (Number n)) (placed regs.old (after regs.old.pc) regs.old.depth)) }
 {
     let before = slot(mem, i);
@@ -35,8 +34,7 @@ fn save_number(mem: &mut [u64], regs: &mut Registers, i: usize, n: i64) -> Turn
 }
 
 // The top goes into a slot too. The new value is held before the old one is let go, since they may be one text.
-pub fn save_slot(mem: &mut [u64], regs: &mut Registers, i: usize) -> Turn
-    requires { length mem.old ≡ 262144 }
+pub fn save_slot(mem: &mut Memory, regs: &mut Registers, i: usize) -> Turn
     ensures { ◌≡◌ {A = Did} (record { mem = parts mem.exit.now; regs = regs.new; turn = result }) (kept_in (parts mem.entry.now) regs.old i) }
 {
     let v = top(mem, regs);
@@ -52,8 +50,7 @@ pub fn save_slot(mem: &mut [u64], regs: &mut Registers, i: usize) -> Turn
 }
 
 // How many lines there were.
-pub fn count_lines(mem: &mut [u64], regs: &mut Registers) -> Turn
-    requires { length mem.old ≡ 262144 }
+pub fn count_lines(mem: &mut Memory, regs: &mut Registers) -> Turn
     ensures { ◌≡◌ {A = Did} (record { mem = parts mem.exit.now; regs = regs.new; turn = result }) (line_counted (parts mem.entry.now) regs.old) }
 {
     let v = Value::Number(regs.count.cast_signed());
@@ -61,8 +58,7 @@ pub fn count_lines(mem: &mut [u64], regs: &mut Registers) -> Turn
 }
 
 // How many fields the line has.
-pub fn count_fields(mem: &mut [u64], regs: &mut Registers) -> Turn
-    requires { length mem.old ≡ 262144 }
+pub fn count_fields(mem: &mut Memory, regs: &mut Registers) -> Turn
     ensures { ◌≡◌ {A = Did} (record { mem = parts mem.exit.now; regs = regs.new; turn = result }) (fields_counted (parts mem.entry.now) regs.old) }
 {
     let n = regs.line.fields as u64;

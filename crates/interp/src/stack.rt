@@ -5,6 +5,7 @@ ghost use Rattle.regions.specs.Parts.{parts};
 ghost use Rattle.interp.specs.declared.Turn.TheVariants.{On};
 ghost use Rattle.interp.specs.Turns.{Did, says, stacking, placed, after, top_of, under_of, pushed, replaced, replaced_two, dropped};
 
+use regions::Memory;
 use crate::registers::Registers;
 use crate::{NO_ROOM, Turn};
 use regions::cells::{CELLS, set_stacked, stacked};
@@ -12,16 +13,14 @@ use regions::texts::{hold_value, release_value};
 use store::cells::Value;
 
 // The value on top.
-pub fn top(mem: &[u64], regs: &Registers) -> Value
-    requires { length mem.now ≡ 262144 }
+pub fn top(mem: &Memory, regs: &Registers) -> Value
     ensures { result ≡ top_of (parts mem.now) regs.now }
 {
     stacked(mem, regs.depth.saturating_sub(1))
 }
 
 // The value under it.
-pub fn under(mem: &[u64], regs: &Registers) -> Value
-    requires { length mem.now ≡ 262144 }
+pub fn under(mem: &Memory, regs: &Registers) -> Value
     ensures { result ≡ under_of (parts mem.now) regs.now }
 {
     stacked(mem, regs.depth.saturating_sub(2))
@@ -35,8 +34,7 @@ pub fn advance(regs: &mut Registers)
 }
 
 // A number comes onto the stack; there is no text to hold.
-fn push_number(mem: &mut [u64], regs: &mut Registers, n: i64) -> Turn
-    requires { length mem.old ≡ 262144 }
+fn push_number(mem: &mut Memory, regs: &mut Registers, n: i64) -> Turn
     ensures { ◌≡◌ {A = Did} (record { mem = parts mem.exit.now; regs = regs.new; turn = result }) (pushed (parts mem.entry.now) regs.old (Number n)) }
 {
     if regs.depth >= CELLS {
@@ -49,8 +47,7 @@ fn push_number(mem: &mut [u64], regs: &mut Registers, n: i64) -> Turn
 }
 
 // A value comes onto the stack.
-pub fn push(mem: &mut [u64], regs: &mut Registers, v: Value) -> Turn
-    requires { length mem.old ≡ 262144 }
+pub fn push(mem: &mut Memory, regs: &mut Registers, v: Value) -> Turn
     ensures { ◌≡◌ {A = Did} (record { mem = parts mem.exit.now; regs = regs.new; turn = result }) (pushed (parts mem.entry.now) regs.old v) }
 {
     // most values are numbers
@@ -68,8 +65,7 @@ pub fn push(mem: &mut [u64], regs: &mut Registers, v: Value) -> Turn
 }
 
 // A new value, whose only holder is the stack, comes in place of the top.
-pub fn replace_top(mem: &mut [u64], regs: &mut Registers, v: Value) -> Turn
-    requires { length mem.old ≡ 262144 }
+pub fn replace_top(mem: &mut Memory, regs: &mut Registers, v: Value) -> Turn
     ensures { ◌≡◌ {A = Did} (record { mem = parts mem.exit.now; regs = regs.new; turn = result }) (replaced (parts mem.entry.now) regs.old v) }
 {
     let old = top(mem, regs);
@@ -80,8 +76,7 @@ pub fn replace_top(mem: &mut [u64], regs: &mut Registers, v: Value) -> Turn
 }
 
 // A new value comes over the two on top, which hold no texts or were let go.
-pub fn cover_two(mem: &mut [u64], regs: &mut Registers, v: Value) -> Turn
-    requires { length mem.old ≡ 262144 }
+pub fn cover_two(mem: &mut Memory, regs: &mut Registers, v: Value) -> Turn
     ensures { ◌≡◌ {A = Did} (record { mem = parts mem.exit.now; regs = regs.new; turn = result }) (says On (stacking (parts mem.entry.now) (regs.old.depth - 2) v) (placed regs.old (after regs.old.pc) (regs.old.depth - 2 + 1))) }
 {
     let at = regs.depth.saturating_sub(2);
@@ -92,8 +87,7 @@ pub fn cover_two(mem: &mut [u64], regs: &mut Registers, v: Value) -> Turn
 }
 
 // A new value comes in place of the two on top.
-pub fn replace_two(mem: &mut [u64], regs: &mut Registers, v: Value) -> Turn
-    requires { length mem.old ≡ 262144 }
+pub fn replace_two(mem: &mut Memory, regs: &mut Registers, v: Value) -> Turn
     ensures { ◌≡◌ {A = Did} (record { mem = parts mem.exit.now; regs = regs.new; turn = result }) (replaced_two (parts mem.entry.now) regs.old v) }
 {
     let second = top(mem, regs);
@@ -104,8 +98,7 @@ pub fn replace_two(mem: &mut [u64], regs: &mut Registers, v: Value) -> Turn
 }
 
 // The top is gone.
-pub fn drop_top(mem: &mut [u64], regs: &mut Registers) -> Turn
-    requires { length mem.old ≡ 262144 }
+pub fn drop_top(mem: &mut Memory, regs: &mut Registers) -> Turn
     ensures { ◌≡◌ {A = Did} (record { mem = parts mem.exit.now; regs = regs.new; turn = result }) (dropped (parts mem.entry.now) regs.old) }
 {
     let old = top(mem, regs);

@@ -7,6 +7,7 @@ ghost use Rattle.regions.specs.Parts.{parts, with_texts};
 ghost use Rattle.interp.specs.Turns.{Did};
 ghost use Rattle.interp.specs.Texts.{text_in, joined_long, joined};
 
+use regions::Memory;
 use crate::registers::Registers;
 use crate::stack::{cover_two, top, under};
 use crate::worth::no_bytes;
@@ -25,8 +26,7 @@ const LONGEST: usize = 65_535;
 const SHORTEST: usize = 8;
 
 // How many bytes the text of a value has.
-pub fn text_len(mem: &[u64], v: Value) -> usize
-    requires { length mem.now ≡ 262144 }
+pub fn text_len(mem: &Memory, v: Value) -> usize
     ensures { result ≡ length (text_in (parts mem.now) v) }
 {
     match v {
@@ -80,8 +80,8 @@ pub fn short_packed(t: Packed) -> Short
 }
 
 // The text of a value, where it has up to eight bytes.
-fn as_short(mem: &[u64], v: Value) -> Short
-    requires { (length mem.now ≡ 262144) × (length (text_in (parts mem.now) v) ≤ 8) }
+fn as_short(mem: &Memory, v: Value) -> Short
+    requires { length (text_in (parts mem.now) v) ≤ 8 }
     ensures { bytes_of result.len result.word ≡ text_in (parts mem.now) v }
 {
     match v {
@@ -107,8 +107,7 @@ fn join_shorts(a: Short, b: Short) -> Short
 }
 
 // The text of a value goes into a text, from byte `at` on.
-fn put_text(mem: &mut [u64], h: Handle, at: usize, v: Value)
-    requires { length mem.old ≡ 262144 }
+fn put_text(mem: &mut Memory, h: Handle, at: usize, v: Value)
     ensures { parts mem.new ≡ with_texts (parts mem.old) (written 77822 (parts mem.old).texts h.index at (text_in (parts mem.old) v)) }
 {
     match v {
@@ -120,8 +119,7 @@ fn put_text(mem: &mut [u64], h: Handle, at: usize, v: Value)
 }
 
 // A new text of so many bytes comes in place of the two on top, of which the first has m bytes.
-fn join_long(mem: &mut [u64], regs: &mut Registers, m: usize, size: usize) -> Turn
-    requires { length mem.old ≡ 262144 }
+fn join_long(mem: &mut Memory, regs: &mut Registers, m: usize, size: usize) -> Turn
     ensures { ◌≡◌ {A = Did} (record { mem = parts mem.exit.now; regs = regs.new; turn = result }) (joined_long (parts mem.entry.now) regs.old m size) }
 {
     let first = under(mem, regs);
@@ -139,8 +137,7 @@ fn join_long(mem: &mut [u64], regs: &mut Registers, m: usize, size: usize) -> Tu
 }
 
 // The texts of the two on top become one.
-pub fn join(mem: &mut [u64], regs: &mut Registers) -> Turn
-    requires { length mem.old ≡ 262144 }
+pub fn join(mem: &mut Memory, regs: &mut Registers) -> Turn
     ensures { ◌≡◌ {A = Did} (record { mem = parts mem.exit.now; regs = regs.new; turn = result }) (joined (parts mem.entry.now) regs.old) }
 {
     let first = under(mem, regs);

@@ -10,7 +10,7 @@ use Rattle.store.proofs.Packing.{length_unpacked}
 use Rattle.store.proofs.Putting.{puts_append, puts_over}
 use Rattle.store.proofs.Moving.{window_part, window_front, window_below}
 use Rattle.regions.specs.Parts.{Parts, with_fields}
-use Rattle.regions.specs.declared.fields.Place.{Place}
+use Rattle.store.specs.declared.place.Place.{Place}
 use Rattle.regions.specs.Places.{place_of}
 use Rattle.lines.specs.declared.line.Line.{Line}
 use Rattle.lines.specs.declared.input.Input.{Input}

@@ -5,7 +5,7 @@ use Rattle.language.specs.Text.{has, none_of, fields_from, joined}
 use Rattle.language.specs.Meaning.{whole_lines, last_line, nth_part, set_part, short}
 use Rattle.store.specs.Words.{window}
 use Rattle.regions.specs.Parts.{Parts, with_fields, with_lines}
-use Rattle.regions.specs.declared.fields.Place.{Place}
+use Rattle.store.specs.declared.place.Place.{Place}
 use Rattle.lines.specs.declared.cutting.Cut.{Cut}
 use Rattle.lines.specs.declared.line.Line.{Line}
 use Rattle.lines.specs.declared.input.Input.{Input}

@@ -3,7 +3,7 @@ use Rattle.std.specs.Prelude.{ℕ, ◌+◌, ◌-◌, Bool, true, false, List, []
 use Rattle.language.specs.Text.{pick, none_of}
 use Rattle.store.specs.Words.{window, put_bytes}
 use Rattle.regions.specs.Parts.{Parts}
-use Rattle.regions.specs.declared.fields.Place.{Place}
+use Rattle.store.specs.declared.place.Place.{Place}
 use Rattle.lines.specs.declared.cutting.Cut.{Cut}
 use Rattle.lines.specs.declared.line.Line.{Line}
 use Rattle.lines.specs.declared.input.Input.{Input}

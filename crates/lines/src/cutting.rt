@@ -5,6 +5,7 @@ ghost use Rattle.store.specs.Words.{unpacked, window};
 ghost use Rattle.regions.specs.Parts.{Parts, parts, with_fields};
 ghost use Rattle.lines.specs.Cutting.{Cuts, cuts_of, fresh_cut, closed_words, closed_count, pass_byte, recut_of};
 
+use regions::Memory;
 use regions::fields::{Place, set_field};
 use regions::lines::{BYTES, byte_within};
 
@@ -38,8 +39,7 @@ pub fn len_at(place: Place) -> usize
 }
 
 // The field that has not ended ends here, if there is one; says how many there are then.
-pub fn close(mem: &mut [u64], cut: Cut) -> usize
-    requires { length mem.old ≡ 262144 }
+pub fn close(mem: &mut Memory, cut: Cut) -> usize
     ensures noted { parts mem.new ≡ with_fields (parts mem.old) (closed_words (parts mem.old).fields cut) }
     ensures count { result ≡ closed_count cut }
 {
@@ -56,8 +56,8 @@ pub fn close(mem: &mut [u64], cut: Cut) -> usize
 }
 
 // Passes byte b of the text.
-pub fn pass(mem: &mut [u64], cut: Cut, b: u8) -> Cut
-    requires { (length mem.old ≡ 262144) × (cut.at < 200704) }
+pub fn pass(mem: &mut Memory, cut: Cut, b: u8) -> Cut
+    requires { cut.at < 200704 }
     ensures noted { parts mem.new ≡ with_fields (parts mem.old) (pass_byte b (cuts_of (parts mem.old).fields cut)).words }
     ensures cut { result ≡ (pass_byte b (cuts_of (parts mem.old).fields cut)).cut }
 {
@@ -85,8 +85,7 @@ fn is_blank(b: u8) -> bool
 }
 
 // Cuts the text at a place into fields, and says how many there are.
-pub fn recut(mem: &mut [u64], place: Place) -> usize
-    requires { length mem.old ≡ 262144 }
+pub fn recut(mem: &mut Memory, place: Place) -> usize
     ensures noted { parts mem.new ≡ with_fields (parts mem.old) (recut_of (parts mem.old).fields (window place.start place.len (parts mem.old).lines)).words }
     ensures count { result ≡ (recut_of (parts mem.old).fields (window place.start place.len (parts mem.old).lines)).cut.fields }
 {

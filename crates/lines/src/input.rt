@@ -5,6 +5,7 @@ ghost use Rattle.regions.specs.Parts.{Parts, parts, with_fields, with_lines};
 ghost use Rattle.lines.specs.Cutting.{Cuts, cuts_of, fresh_cut, closed_words, closed_count};
 ghost use Rattle.lines.specs.Scanning.{scan_on, scan_of, found_of, after_scan, waits_at, waiting, taken_lines, after_taken, last_words, last_of, after_last};
 
+use regions::Memory;
 use crate::cutting::{Cut, close, fresh, len_at, pass};
 use crate::line::Line;
 use regions::fields::Place;
@@ -45,8 +46,7 @@ fn waits(input: Input) -> Place
 }
 
 // Moves the waiting bytes to the front, and puts a piece behind them, as much of it as has room.
-pub fn take_in(mem: &mut [u64], input: &mut Input, piece: &[u8])
-    requires { length mem.old ≡ 262144 }
+pub fn take_in(mem: &mut Memory, input: &mut Input, piece: &[u8])
     ensures lines { parts mem.new ≡ with_lines (parts mem.old) (taken_lines (parts mem.old).lines (waiting input.old (parts mem.old).lines) piece.now) }
     ensures input { input.new ≡ after_taken input.old (waiting input.old (parts mem.old).lines) piece.now }
 {
@@ -59,8 +59,8 @@ pub fn take_in(mem: &mut [u64], input: &mut Input, piece: &[u8])
 }
 
 // Goes on with the n bytes from byte `from` on, to the end of a line, which it says, or of the bytes.
-fn scan_on(mem: &mut [u64], from: usize, n: usize, cut: &mut Cut) -> bool
-    requires { (length mem.old ≡ 262144) × (n ≤ 200704 - from) }
+fn scan_on(mem: &mut Memory, from: usize, n: usize, cut: &mut Cut) -> bool
+    requires { n ≤ 200704 - from }
     ensures noted { parts mem.new ≡ with_fields (parts mem.old) (scan_on (drop cut.old.at (window from n (parts mem.old).lines)) (cuts_of (parts mem.old).fields cut.old)).cuts.words }
     ensures cut { cut.new ≡ (scan_on (drop cut.old.at (window from n (parts mem.old).lines)) (cuts_of (parts mem.old).fields cut.old)).cuts.cut }
     ensures found { result ≡ (scan_on (drop cut.old.at (window from n (parts mem.old).lines)) (cuts_of (parts mem.old).fields cut.old)).found }
@@ -86,8 +86,7 @@ fn scan_on(mem: &mut [u64], from: usize, n: usize, cut: &mut Cut) -> bool
 }
 
 // Looks for the next line, from where it has come to before, and notes the fields that it passes.
-pub fn scan(mem: &mut [u64], input: &mut Input) -> Found
-    requires { length mem.old ≡ 262144 }
+pub fn scan(mem: &mut Memory, input: &mut Input) -> Found
     ensures noted { parts mem.new ≡ with_fields (parts mem.old) (scan_of (parts mem.old) input.old).cuts.words }
     ensures input { input.new ≡ after_scan input.old (scan_of (parts mem.old) input.old) }
     ensures found { result ≡ found_of input.old (scan_of (parts mem.old) input.old) }
@@ -112,8 +111,7 @@ pub fn scan(mem: &mut [u64], input: &mut Input) -> Found
 }
 
 // At the end: what waits is a line, if it has bytes.
-pub fn last_line(mem: &mut [u64], input: &mut Input) -> Option<Line>
-    requires { length mem.old ≡ 262144 }
+pub fn last_line(mem: &mut Memory, input: &mut Input) -> Option<Line>
     ensures noted { parts mem.new ≡ with_fields (parts mem.old) (last_words (parts mem.old) input.old) }
     ensures input { input.new ≡ after_last (parts mem.old) input.old }
     ensures line { result ≡ last_of (parts mem.old) input.old }

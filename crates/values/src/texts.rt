@@ -32,13 +32,13 @@ pub struct Solid;
 pub fn is_blank(b: u8) -> bool
     ensures { result ≡ blank b }
 {
-    b == b' ' || b == b'\t'
+    matches!(b, b' ' | b'\t')
 }
 
 pub fn is_digit(b: u8) -> bool
     ensures { result ≡ digit b }
 {
-    b >= b'0' && b <= b'9'
+    b.is_ascii_digit()
 }
 
 impl Kind for Blank {
@@ -69,12 +69,13 @@ impl Kind for Solid {
 pub fn past<K: Kind, T: Bytes>(t: &T, from: usize) -> usize
     ensures { result ≡ from + run K.Kind.test (drop from (T.Bytes.bytes t.now)) }
 {
-    let len = t.len();
-    let mut i = from;
-    while i < len && K::has(t.at(i)) {
-        i += 1;
+    let end = t.len().max(from);
+    for i in from..end {
+        if !K::has(t.at(i)) {
+            return i;
+        }
     }
-    i
+    end
 }
 
 // A run is as long as it can be.

@@ -11,7 +11,7 @@ loop-at-init c = (refl, zero-le)
 
 pub overflow_add-to : goal.overflow_add-to
 overflow_add-to c =
-    let l = text_most c.args.mem.now c.args.h.index c.requires.0 in
+    let l = text_most c.args.mem.now c.args.h.index c.told-mem in
     record { fits = omega (arith, ap length c.text_view.ensures, c.len-n.ensures) }
 
 pub loop-at-preserved : goal.loop-at-preserved

@@ -5,13 +5,13 @@ use Rattle.engine.proofs.Stepping.{none_behind, all_behind, Round, round_behind,
 use Rattle.engine.proofs.steps.turns.Goals as goal
 
 pub loop-i-init : goal.loop-i-init
-loop-i-init c = (simp sub-zero, none_behind _ _ c.requires.1.1)
+loop-i-init c = (simp sub-zero, none_behind _ _ c.requires.1)
 
 pub loop-i-preserved : goal.loop-i-preserved
 loop-i-preserved c =
     let h : Round c.loop-i.mem c.loop-i.regs c.loop-i.out c.turn.new.mem c.turn.new.regs c.turn.new.out On =
     record {
-      wide = omega (arith, c.loop-i.auto.out, c.requires.1);
+      wide = omega (arith, c.loop-i.auto.out, c.requires);
       room = c.if-regs-ge-ROW.false;
       size = c.turn.auto.mem;
       did = c.in-On.ensures.did;
@@ -26,7 +26,7 @@ pub returns-in-Ask : goal.returns-in-Ask
 returns-in-Ask c =
     let h : Round c.loop-i.mem c.loop-i.regs c.loop-i.out c.turn.new.mem c.turn.new.regs c.turn.new.out Ask =
     record {
-      wide = omega (arith, c.loop-i.auto.out, c.requires.1);
+      wide = omega (arith, c.loop-i.auto.out, c.requires);
       room = c.if-regs-ge-ROW.false;
       size = c.turn.auto.mem;
       did = c.in-Ask.ensures.did;
@@ -41,7 +41,7 @@ pub returns-in-Done : goal.returns-in-Done
 returns-in-Done c =
     let h : Round c.loop-i.mem c.loop-i.regs c.loop-i.out c.turn.new.mem c.turn.new.regs c.turn.new.out (Done c.in-Done.k) =
     record {
-      wide = omega (arith, c.loop-i.auto.out, c.requires.1);
+      wide = omega (arith, c.loop-i.auto.out, c.requires);
       room = c.if-regs-ge-ROW.false;
       size = c.turn.auto.mem;
       did = c.in-Done.ensures.did;
@@ -56,7 +56,7 @@ pub returns-in-Refuse : goal.returns-in-Refuse
 returns-in-Refuse c =
     let h : Round c.loop-i.mem c.loop-i.regs c.loop-i.out c.turn.new.mem c.turn.new.regs c.turn.new.out (Refuse c.in-Refuse.k) =
     record {
-      wide = omega (arith, c.loop-i.auto.out, c.requires.1);
+      wide = omega (arith, c.loop-i.auto.out, c.requires);
       room = c.if-regs-ge-ROW.false;
       size = c.turn.auto.mem;
       did = c.in-Refuse.ensures.did;

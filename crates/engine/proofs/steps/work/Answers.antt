@@ -10,14 +10,14 @@ returns c =
     let h : Worked c.args.mem.now (told_of c.args.event) c.args.out.now c.begin-regs.new.mem c.begin-regs.result c.begin-regs.new.out c.turns-last.new.mem
     c.turns-last.new.regs c.turns-last.new.out c.save_registers.new.mem c.turns-last.result =
     record {
-      long = c.requires.0;
-      wide = c.requires.1;
+      long = c.told-mem;
+      wide = c.requires;
       taken = c.begin-regs.ensures.scene;
       first = c.begin-regs.ensures.row;
       turns = c.turns-last.ensures.halt;
       then = c.turns-last.ensures.row;
-      still = c.turns-last.auto.mem ∙ c.begin-regs.auto.mem ∙ c.requires.0;
-      last = c.save_registers.auto.mem ∙ c.turns-last.auto.mem ∙ c.begin-regs.auto.mem ∙ c.requires.0;
+      still = c.turns-last.auto.mem ∙ c.begin-regs.auto.mem ∙ c.told-mem;
+      last = c.save_registers.auto.mem ∙ c.turns-last.auto.mem ∙ c.begin-regs.auto.mem ∙ c.told-mem;
       put = c.save_registers.ensures;
       fits = λ i. (c.type_inv.mem i).fits;
     } in

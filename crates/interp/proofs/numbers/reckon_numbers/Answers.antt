@@ -14,12 +14,12 @@ returns-in-Ok c =
     let b : to_z w64 (of_z w64 c.args.b) ≡ c.args.b = search rules in
     let e : to_z w64 (of_z w64 c.in-Ok.n) ≡ c.in-Ok.n = search rules in
     c.cover_two.ensures
-    ∙ covered (parts c.args.mem.now) c.args.regs.now (Number c.args.a) (Number c.args.b) _ c.requires.1.0 c.requires.1.1 (λ s. refl) (λ s. refl)
+    ∙ covered (parts c.args.mem.now) c.args.regs.now (Number c.args.a) (Number c.args.b) _ c.requires.0 c.requires.1 (λ s. refl) (λ s. refl)
     ∙ ap (λ x. replaced_two (parts c.args.mem.now) c.args.regs.now (Number x)) e
     ∙ reckoned_ok c.args.c (parts c.args.mem.now) c.args.regs.now (Number c.args.a) (Number c.args.b) _ _ c.in-Ok.n
     (record {
-      first = c.requires.1.0;
-      second = c.requires.1.1;
+      first = c.requires.0;
+      second = c.requires.1;
       left = ap number a ∙ number_itself c.args.a;
       right = ap number b ∙ number_itself c.args.b;
       answer = c.in-Ok.ensures;
@@ -32,8 +32,8 @@ returns-in-Err c =
     ap (λ t. says t (parts c.args.mem.now) c.args.regs.now) c.refusal.ensures
     ∙ reckoned_err c.args.c (parts c.args.mem.now) c.args.regs.now (Number c.args.a) (Number c.args.b) _ _ c.in-Err.trouble
     (record {
-      first = c.requires.1.0;
-      second = c.requires.1.1;
+      first = c.requires.0;
+      second = c.requires.1;
       left = ap number a ∙ number_itself c.args.a;
       right = ap number b ∙ number_itself c.args.b;
       answer = c.in-Err.ensures;

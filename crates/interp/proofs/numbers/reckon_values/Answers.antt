@@ -13,12 +13,12 @@ returns-in-Ok c =
     let b : to_z w64 (of_z w64 c.number_in-n.result) ≡ c.number_in-n.result = search rules in
     let e : to_z w64 (of_z w64 c.in-Ok.got) ≡ c.in-Ok.got = search rules in
     c.cover_two.ensures
-    ∙ released (parts c.args.mem.now) (parts c.release_value.new.mem) (parts c.release_value-in-Ok.new.mem) c.args.regs.now c.args.first c.args.second _ c.requires.1.0 c.requires.1.1 c.release_value.ensures c.release_value-in-Ok.ensures
+    ∙ released (parts c.args.mem.now) (parts c.release_value.new.mem) (parts c.release_value-in-Ok.new.mem) c.args.regs.now c.args.first c.args.second _ c.requires.0 c.requires.1 c.release_value.ensures c.release_value-in-Ok.ensures
     ∙ ap (λ x. replaced_two (parts c.args.mem.now) c.args.regs.now (Number x)) e
     ∙ reckoned_ok c.args.c (parts c.args.mem.now) c.args.regs.now c.args.first c.args.second _ _ c.in-Ok.got
     (record {
-      first = c.requires.1.0;
-      second = c.requires.1.1;
+      first = c.requires.0;
+      second = c.requires.1;
       left = ap number a ∙ c.number_in-m.ensures;
       right = ap number b ∙ c.number_in-n.ensures;
       answer = c.in-Ok.ensures;
@@ -31,8 +31,8 @@ returns-in-Err c =
     ap (λ t. says t (parts c.args.mem.now) c.args.regs.now) c.refusal.ensures
     ∙ reckoned_err c.args.c (parts c.args.mem.now) c.args.regs.now c.args.first c.args.second _ _ c.in-Err.trouble
     (record {
-      first = c.requires.1.0;
-      second = c.requires.1.1;
+      first = c.requires.0;
+      second = c.requires.1;
       left = ap number a ∙ c.number_in-m.ensures;
       right = ap number b ∙ c.number_in-n.ensures;
       answer = c.in-Err.ensures;

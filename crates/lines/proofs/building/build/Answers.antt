@@ -11,7 +11,7 @@ pub lay_all-requires : goal.lay_all-requires
 lay_all-requires c =
     let ws : List ℕ = (parts c.args.mem.now).fields in
     let t : ℕ = total (pieces ws c.args.line c.args.n c.args.len c.max-fields.result 0) in
-    (c.requires, leb-true t 65536 (some_then (leb t 65536) t c.in-Some.bytes (sym c.total_len.ensures ∙ c.in-Some.is)).0)
+    leb-true t 65536 (some_then (leb t 65536) t c.in-Some.bytes (sym c.total_len.ensures ∙ c.in-Some.is)).0
 
 pub returns-in_default : goal.returns-in_default
 unfolding built after_built

@@ -18,7 +18,7 @@ loop-cut-preserved c =
     let s : ℕ = c.args.place.start in
     let n : ℕ = c.args.place.len in
     let w : List ℕ = window s n o.lines in
-    let t : length w ≡ c.len_at-n.result = window_length s n o.lines (lines_length c.args.mem.now c.requires) ∙ sym c.len_at-n.ensures in
+    let t : length w ≡ c.len_at-n.result = window_length s n o.lines (lines_length c.args.mem.now c.told-mem) ∙ sym c.len_at-n.ensures in
     let e = byte_of o.lines p.lines s n c.loop-cut.cut.at c.byte_within-b.result c.byte_within-b.ensures (ap (λ x. x.lines) i.1) (omega arith) in (
       i.0 ∙ pass_turn w p.fields q.fields c.loop-cut.cut c.pass-cut.result c.byte_within-b.result (omega arith) e (ap (λ x. x.fields) c.pass-cut.ensures.noted) c.pass-cut.ensures.cut,
       fields_only o p q _ _ i.1 c.pass-cut.ensures.noted,
@@ -34,7 +34,7 @@ returns c =
     let s : ℕ = c.args.place.start in
     let n : ℕ = c.args.place.len in
     let w : List ℕ = window s n o.lines in
-    let t : length w ≡ c.len_at-n.result = window_length s n o.lines (lines_length c.args.mem.now c.requires) ∙ sym c.len_at-n.ensures in
+    let t : length w ≡ c.len_at-n.result = window_length s n o.lines (lines_length c.args.mem.now c.told-mem) ∙ sym c.len_at-n.ensures in
     let e = i.0 ∙ pass_end w (cuts_of p.fields c.loop-cut.cut) (omega arith) in
     record {
       noted = fields_only o p q _ _ i.1 c.close.ensures.noted ∙ ap (with_fields o) (ap (λ x. x.fields) c.close.ensures.noted ∙ ap (λ x. (closed x).words) (sym e));

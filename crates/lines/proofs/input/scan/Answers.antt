@@ -17,14 +17,14 @@ scan_all p i n e = ap (λ w. scan_on (drop i.cut.at w) (cuts_of p.fields i.cut))
 
 pub scan_on-requires : goal.scan_on-requires
 scan_on-requires c =
-    (c.requires, omega (arith, c.len_at-n.ensures ∙ ap (λ p. min p.len (200704 - p.start)) c.waits.ensures))
+    omega (arith, c.len_at-n.ensures ∙ ap (λ p. min p.len (200704 - p.start)) c.waits.ensures)
 
 pub returns-then-scan_on : goal.returns-then-scan_on
 returns-then-scan_on c =
     let i : Input = c.args.input.now in
     let p : Parts = parts c.args.mem.now in
     let k = c.len_at-n.ensures ∙ ap (λ q. min q.len (200704 - q.start)) c.waits.ensures in
-    let e = scan_all p i c.len_at-n.result (window_all i.from (i.to - i.from) c.len_at-n.result p.lines (lines_length c.args.mem.now c.requires) k) in
+    let e = scan_all p i c.len_at-n.result (window_all i.from (i.to - i.from) c.len_at-n.result p.lines (lines_length c.args.mem.now c.told-mem) k) in
     let s : Scanned = scan_of p i in
     let t : c.scan_on.new.cut ≡ s.cuts.cut = c.scan_on.ensures.cut ∙ ap (λ x. x.cuts.cut) e in
     let f : s.found ≡ true = sym (c.scan_on.ensures.found ∙ ap (λ x. x.found) e) ∙ c.if-scan_on.true in
@@ -39,7 +39,7 @@ returns-else-scan_on c =
     let i : Input = c.args.input.now in
     let p : Parts = parts c.args.mem.now in
     let k = c.len_at-n.ensures ∙ ap (λ q. min q.len (200704 - q.start)) c.waits.ensures in
-    let e = scan_all p i c.len_at-n.result (window_all i.from (i.to - i.from) c.len_at-n.result p.lines (lines_length c.args.mem.now c.requires) k) in
+    let e = scan_all p i c.len_at-n.result (window_all i.from (i.to - i.from) c.len_at-n.result p.lines (lines_length c.args.mem.now c.told-mem) k) in
     let s : Scanned = scan_of p i in
     let t : c.scan_on.new.cut ≡ s.cuts.cut = c.scan_on.ensures.cut ∙ ap (λ x. x.cuts.cut) e in
     let f : s.found ≡ false = sym (c.scan_on.ensures.found ∙ ap (λ x. x.found) e) ∙ c.if-scan_on.false in
