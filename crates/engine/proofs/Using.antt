@@ -9,8 +9,6 @@ use Rattle.values.specs.Compare.{operator}
 use Rattle.regions.specs.Parts.{Parts, with_fields}
 use Rattle.lines.specs.declared.line.Line.{Line}
 use Rattle.lines.specs.declared.input.Input.{Input}
-use Rattle.lines.specs.declared.input.Found.{Found}
-use Rattle.lines.specs.declared.input.Found.TheVariants.{Whole, Part}
 use Rattle.lines.specs.Scanning.{scan_of, after_scan, found_of}
 use Rattle.rows.specs.declared.Printed.{Printed}
 use Rattle.rows.specs.Rows.{went}
@@ -141,9 +139,9 @@ last_uses : (p : Parts) (r : Registers) (i : Input) → Uses (last_taken p r i) 
 unfolding last_taken
 last_uses p r i = last_started_uses _ r _ _
 
-sought_uses : (p : Parts) (r : Registers) (i : Input) (f : Found) → Uses (sought p r i f) r.used
-sought_uses p r i (Whole l) = started_uses r i l
-sought_uses p r i Part = either_uses i.ended _ _ _ (last_uses p r i) (waited_uses r i)
+sought_uses : (p : Parts) (r : Registers) (i : Input) (f : Option Line) → Uses (sought p r i f) r.used
+sought_uses p r i (Some l) = started_uses r i l
+sought_uses p r i None = either_uses i.ended _ _ _ (last_uses p r i) (waited_uses r i)
 
 line_sought_uses : (p : Parts) (r : Registers) → Uses (line_sought p r) r.used
 unfolding line_sought

@@ -109,9 +109,7 @@ pub fn build(mem: &mut Memory, line: Line, n: usize, len: usize) -> Option<Line>
     ensures line { result ≡ built (parts mem.old) line n len }
 {
     let fields = line.fields.max(n);
-    let Some(bytes) = total_len(mem, line, n, len, fields) else {
-        return None;
-    };
+    let bytes = total_len(mem, line, n, len, fields)?;
     lay_all(mem, line, n, len, fields);
     let place = Place {
         start: free_buffer(line),
@@ -125,10 +123,7 @@ pub fn set_line_field<T: Bytes>(mem: &mut Memory, line: Line, n: usize, value: &
     ensures filled { parts mem.new ≡ after_set (parts mem.old) line n (T.Bytes.bytes value.now) }
     ensures line { result ≡ built (parts mem.old) line n (length (T.Bytes.bytes value.now)) }
 {
-    let new = match build(mem, line, n, value.len()) {
-        Some(new) => new,
-        None => return None,
-    };
+    let new = build(mem, line, n, value.len())?;
     let gap = nth_field(mem, new, n);
     put_text(mem, gap.start, value);
     Some(new)

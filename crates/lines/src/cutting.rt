@@ -1,6 +1,5 @@
 // A text is cut into fields in one pass over its bytes.
 ghost use Rattle.std.specs.Prelude.{◌≡◌, ℕ, ◌+◌, ◌-◌, ◌*◌, ◌<◌, ◌≤◌, min, length};
-ghost use Rattle.language.specs.Text.{blank};
 ghost use Rattle.store.specs.Words.{unpacked, window};
 ghost use Rattle.regions.specs.Parts.{Parts, parts, with_fields};
 ghost use Rattle.lines.specs.Cutting.{Cuts, cuts_of, fresh_cut, closed_words, closed_count, pass_byte, recut_of};
@@ -8,6 +7,7 @@ ghost use Rattle.lines.specs.Cutting.{Cuts, cuts_of, fresh_cut, closed_words, cl
 use regions::Memory;
 use regions::fields::{Place, set_field};
 use regions::lines::{BYTES, byte_within};
+use store::bytes::is_blank;
 
 // How far a text is cut. Places count from where the text begins, so they stay as they are when it is moved.
 #[derive(Clone, Copy)]
@@ -78,12 +78,6 @@ pub fn pass(mem: &mut Memory, cut: Cut, b: u8) -> Cut
     }
 }
 
-fn is_blank(b: u8) -> bool
-    ensures { result ≡ blank b }
-{
-    b == b' ' || b == b'\t'
-}
-
 // Cuts the text at a place into fields, and says how many there are.
 pub fn recut(mem: &mut Memory, place: Place) -> usize
     ensures noted { parts mem.new ≡ with_fields (parts mem.old) (recut_of (parts mem.old).fields (window place.start place.len (parts mem.old).lines)).words }
@@ -91,8 +85,8 @@ pub fn recut(mem: &mut Memory, place: Place) -> usize
 {
     let n = len_at(place);
     let mut cut = fresh();
-    while cut.at < n {
-        let b = byte_within(mem, place.start + cut.at);
+    for i in 0..n {
+        let b = byte_within(mem, place.start + i);
         cut = pass(mem, cut, b);
     }
     close(mem, cut)

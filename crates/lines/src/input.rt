@@ -26,15 +26,6 @@ pub struct Input {
     pub ended: bool,
 }
 
-// What a scan finds.
-#[derive(Clone, Copy)]
-pub enum Found {
-    // A line that is whole.
-    Whole(Line),
-    // Part of a line.
-    Part,
-}
-
 // Where the waiting bytes are.
 fn waits(input: Input) -> Place
     ensures { result ≡ waits_at input }
@@ -85,8 +76,8 @@ fn scan_on(mem: &mut Memory, from: usize, n: usize, cut: &mut Cut) -> bool
     false
 }
 
-// Looks for the next line, from where it has come to before, and notes the fields that it passes.
-pub fn scan(mem: &mut Memory, input: &mut Input) -> Found
+// Looks for the next line, from where it has come to before, and notes the fields that it passes. None, where what waits is part of a line.
+pub fn scan(mem: &mut Memory, input: &mut Input) -> Option<Line>
     ensures noted { parts mem.new ≡ with_fields (parts mem.old) (scan_of (parts mem.old) input.old).cuts.words }
     ensures input { input.new ≡ after_scan input.old (scan_of (parts mem.old) input.old) }
     ensures found { result ≡ found_of input.old (scan_of (parts mem.old) input.old) }
@@ -100,13 +91,13 @@ pub fn scan(mem: &mut Memory, input: &mut Input) -> Found
         };
         input.from = input.from + cut.at + 1;
         input.cut = fresh();
-        Found::Whole(Line {
+        Some(Line {
             place,
             fields: cut.fields,
         })
     } else {
         input.cut = cut;
-        Found::Part
+        None
     }
 }
 

@@ -6,6 +6,8 @@ ghost use Rattle.values.specs.Texts.{run, Runs, dash, plain};
 
 use store::bytes::Bytes;
 
+pub use store::bytes::is_blank;
+
 // Of more digits than these the first ones count.
 const DIGITS: usize = 18;
 
@@ -28,12 +30,6 @@ pub struct Digit;
 // All bytes that are no blanks.
 #[derive(Drop)]
 pub struct Solid;
-
-pub fn is_blank(b: u8) -> bool
-    ensures { result ≡ blank b }
-{
-    matches!(b, b' ' | b'\t')
-}
 
 pub fn is_digit(b: u8) -> bool
     ensures { result ≡ digit b }

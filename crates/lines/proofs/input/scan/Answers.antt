@@ -1,9 +1,8 @@
-use Rattle.std.proofs.Common.{◌≡◌, ℕ, ◌+◌, ◌-◌, min, true, false, drop, sym, ap, ◌∙◌, arith}
+use Rattle.std.proofs.Common.{◌≡◌, ℕ, ◌+◌, ◌-◌, min, true, false, drop, sym, ap, ◌∙◌, arith, Some}
 use Rattle.store.specs.Words.{window}
 use Rattle.regions.specs.Parts.{Parts, parts, with_fields}
 use Rattle.regions.proofs.Regions.{lines_length}
 use Rattle.lines.specs.declared.input.Input.{Input}
-use Rattle.lines.specs.declared.input.Found.TheVariants.{Whole}
 use Rattle.lines.specs.Cutting.{cuts_of}
 use Rattle.lines.specs.Scanning.{Scanned, scan_on, scan_of, input_of, line_at}
 use Rattle.lines.proofs.Waiting.{window_all, after_found, after_part, found_whole, found_part}
@@ -31,7 +30,7 @@ returns-then-scan_on c =
     record {
       noted = c.scan_on.ensures.noted ∙ ap (λ x. with_fields p x.cuts.words) e;
       input = ap (λ x. input_of (i.from + x.at + 1) i.to c.fresh-input.result i.ended) t ∙ ap (λ x. input_of (i.from + s.cuts.cut.at + 1) i.to x i.ended) c.fresh-input.ensures ∙ sym (after_found i s f);
-      found = ap (λ x. Whole (line_at i.from x.at x.fields)) t ∙ sym (found_whole i s f);
+      found = ap (λ x. Some (line_at i.from x.at x.fields)) t ∙ sym (found_whole i s f);
     }
 
 pub returns-else-scan_on : goal.returns-else-scan_on
