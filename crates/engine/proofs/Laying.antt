@@ -21,7 +21,7 @@ use Rattle.lines.specs.Lines.{place, within, nth_place}
 use Rattle.lines.specs.Building.{total, all_pieces, laid, built, after_built, filled, filled_if, after_set, buffer_of}
 use Rattle.lines.proofs.Keeping.{built_texts}
 use Rattle.interp.specs.declared.registers.Registers.{Registers}
-use Rattle.interp.specs.declared.Turn.TheVariants.{Refuse}
+use Rattle.interp.specs.Outcomes.{Refuse}
 use Rattle.interp.specs.Turns.{says, top_of, under_of, worth_in}
 use Rattle.interp.specs.Texts.{text_in}
 use Rattle.engine.specs.Setting.{relined, line_set, nth_set_by, nth_set, field_set_by, field_set}

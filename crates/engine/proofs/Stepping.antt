@@ -10,8 +10,7 @@ use Rattle.regions.specs.Parts.{Parts, parts, with_lines}
 use Rattle.lines.specs.declared.input.Input.{Input}
 use Rattle.lines.specs.Scanning.{waiting, taken_lines, after_taken, input_of}
 use Rattle.rows.specs.Rows.{over_row}
-use Rattle.interp.specs.declared.Turn.{Turn}
-use Rattle.interp.specs.declared.Turn.TheVariants.{On}
+use Rattle.interp.specs.Outcomes.{Turn, On}
 use Rattle.interp.specs.declared.registers.Registers.{Registers}
 use Rattle.interp.specs.Between.{with_input}
 use Rattle.interp.specs.Registers.{registers_in}

@@ -12,8 +12,7 @@ use Rattle.lines.specs.declared.input.Input.{Input}
 use Rattle.lines.specs.Scanning.{scan_of, after_scan, found_of}
 use Rattle.rows.specs.declared.Printed.{Printed}
 use Rattle.rows.specs.Rows.{went}
-use Rattle.interp.specs.declared.Turn.{Turn}
-use Rattle.interp.specs.declared.Turn.TheVariants.{On}
+use Rattle.interp.specs.Outcomes.{Turn, On}
 use Rattle.interp.specs.declared.ops.Op.{Op}
 use Rattle.interp.specs.declared.ops.Op.TheVariants.{Load, Save, LineCount, FieldCount, GetField, SetField, Not, Opposite, Calculate, Compare, Join, Unknown, Truth, Fail, Jump, JumpIf, JumpUnless, Drop, PrintLine, PrintValues, LeaveLine, Exit, End}
 use Rattle.interp.specs.declared.registers.Stage.{Stage}

@@ -5,8 +5,7 @@ use Rattle.language.specs.Run
 use Rattle.language.specs.Run.{bytes, no_more, next, Act, more, write, done, refused, all_small}
 use Rattle.semantics.specs.Engine.{goes_by}
 use Rattle.regions.specs.Parts.{parts}
-use Rattle.interp.specs.declared.Turn.{Turn}
-use Rattle.interp.specs.declared.Turn.TheVariants.{On, Ask as Asks, Done as Ends, Refuse as Refuses}
+use Rattle.interp.specs.Outcomes.{Turn, On, Ask as Asks, Done as Ends, Refuse as Refuses}
 use Rattle.interp.specs.declared.registers.Registers.{Registers}
 use Rattle.engine.specs.declared.Event.{Event}
 use Rattle.engine.specs.declared.Event.TheVariants.{Piece, NoMore, Next}

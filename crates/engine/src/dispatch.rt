@@ -28,42 +28,42 @@ fn fetch(mem: &Memory, regs: &Registers) -> Op
 }
 
 // An operation.
-fn perform(mem: &mut Memory, regs: &mut Registers, op: Op, out: &mut [u8]) -> Turn
+fn perform(mem: &mut Memory, regs: &mut Registers, op: Op, out: &mut [u8]) -> Result<Turn, Refusal>
     requires { 4096 ≤ length out.old }
-    ensures did { ◌≡◌ {A = Did} (record { mem = parts mem.exit.now; regs = regs.new; turn = result }) (performed op (parts mem.entry.now) regs.old) }
+    ensures did { ◌≡◌ {A = Did} (record { mem = parts mem.exit.now; regs = regs.new; turn = came result }) (performed op (parts mem.entry.now) regs.old) }
     ensures row { out.new ≡ lent_after out.old regs.old.used (text_printed op (parts mem.old) regs.old) }
 {
     match op {
         Op::Load(i) => load_slot(mem, regs, i),
-        Op::Save(i) => save_slot(mem, regs, i),
+        Op::Save(i) => Ok(save_slot(mem, regs, i)),
         Op::LineCount => count_lines(mem, regs),
         Op::FieldCount => count_fields(mem, regs),
         Op::GetField => get_field(mem, regs),
         Op::SetField => set_field(mem, regs),
-        Op::Not => negate(mem, regs),
+        Op::Not => Ok(negate(mem, regs)),
         Op::Opposite => oppose(mem, regs),
         Op::Calculate(c) => reckon(mem, regs, c),
-        Op::Compare(c) => compare_two(mem, regs, c),
+        Op::Compare(c) => Ok(compare_two(mem, regs, c)),
         Op::Join => join(mem, regs),
-        Op::Unknown => Turn::Refuse(UNKNOWN),
-        Op::Truth => judge(mem, regs),
-        Op::Fail(k) => Turn::Refuse(k),
-        Op::Jump(to) => jump(regs, to),
-        Op::JumpIf(to) => jump_if(mem, regs, to),
-        Op::JumpUnless(to) => jump_unless(mem, regs, to),
-        Op::Drop => drop_top(mem, regs),
+        Op::Unknown => Err(Refusal::Unknown),
+        Op::Truth => Ok(judge(mem, regs)),
+        Op::Fail(k) => Err(Refusal::Stated(k)),
+        Op::Jump(to) => Ok(jump(regs, to)),
+        Op::JumpIf(to) => Ok(jump_if(mem, regs, to)),
+        Op::JumpUnless(to) => Ok(jump_unless(mem, regs, to)),
+        Op::Drop => Ok(drop_top(mem, regs)),
         Op::PrintLine => begin_line(mem, regs, out),
         Op::PrintValues(n) => begin_values(mem, regs, n, out),
-        Op::LeaveLine => leave(regs),
+        Op::LeaveLine => Ok(leave(regs)),
         Op::Exit => exit(mem, regs),
-        Op::End => leave(regs),
+        Op::End => Ok(leave(regs)),
     }
 }
 
 // One turn. What it prints goes behind what is used of the row, as much of it as has room.
-pub fn turn(mem: &mut Memory, regs: &mut Registers, out: &mut [u8]) -> Turn
+pub fn turn(mem: &mut Memory, regs: &mut Registers, out: &mut [u8]) -> Result<Turn, Refusal>
     requires { 4096 ≤ length out.old }
-    ensures did { ◌≡◌ {A = Did} (record { mem = parts mem.exit.now; regs = regs.new; turn = result }) (turned (parts mem.entry.now) regs.old) }
+    ensures did { ◌≡◌ {A = Did} (record { mem = parts mem.exit.now; regs = regs.new; turn = came result }) (turned (parts mem.entry.now) regs.old) }
     ensures row { out.new ≡ lent_after out.old regs.old.used (turned_text (parts mem.old) regs.old) }
 {
     if regs.running {

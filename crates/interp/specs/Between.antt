@@ -5,8 +5,7 @@ use Rattle.regions.specs.Parts.{Parts, with_fields}
 use Rattle.lines.specs.declared.line.Line.{Line}
 use Rattle.lines.specs.declared.input.Input.{Input}
 use Rattle.lines.specs.Scanning.{Scanned, scan_of, after_scan, found_of, last_words, after_last, last_of}
-use Rattle.interp.specs.declared.Turn.{Turn}
-use Rattle.interp.specs.declared.Turn.TheVariants.{On, Ask, Done, Refuse}
+use Rattle.interp.specs.Outcomes.{Turn, On, Ask, Done, Refuse}
 use Rattle.interp.specs.declared.registers.Stage.{Stage}
 use Rattle.interp.specs.declared.registers.Stage.TheVariants.{Begin, Lines, End}
 use Rattle.interp.specs.declared.registers.Registers.{Registers}

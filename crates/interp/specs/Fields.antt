@@ -9,7 +9,7 @@ use Rattle.regions.specs.Parts.{Parts, with_texts}
 use Rattle.store.specs.declared.place.Place.{Place}
 use Rattle.lines.specs.declared.line.Line.{Line}
 use Rattle.lines.specs.Lines.{nth_place}
-use Rattle.interp.specs.declared.Turn.TheVariants.{Refuse}
+use Rattle.interp.specs.Outcomes.{Refuse}
 use Rattle.interp.specs.declared.registers.Registers.{Registers}
 use Rattle.interp.specs.Turns.{Did, says, top_of, worth_in, replaced}
 

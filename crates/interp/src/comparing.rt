@@ -1,9 +1,10 @@
 // Comparisons of what is on the stack.
-ghost use Rattle.std.specs.Prelude.{◌≡◌, [], length};
+ghost use Rattle.std.specs.Prelude.{◌≡◌, [], length, Ok};
 ghost use Rattle.language.specs.Text.{text};
 ghost use Rattle.store.specs.Numbers.{number};
 ghost use Rattle.values.specs.Compare.{operator};
 ghost use Rattle.regions.specs.Parts.{parts};
+ghost use Rattle.interp.specs.Outcomes.{came};
 ghost use Rattle.interp.specs.Turns.{Did, worth_in};
 ghost use Rattle.interp.specs.Numbers.{Compares, figured};
 
@@ -103,7 +104,7 @@ fn compare_values(mem: &Memory, c: Comparison, a: Value, b: Value) -> bool
 
 // 1 if the two on top compare so, otherwise 0.
 pub fn compare_two(mem: &mut Memory, regs: &mut Registers, c: Comparison) -> Turn
-    ensures { ◌≡◌ {A = Did} (record { mem = parts mem.exit.now; regs = regs.new; turn = result }) (figured (operator c) (parts mem.entry.now) regs.old) }
+    ensures { ◌≡◌ {A = Did} (record { mem = parts mem.exit.now; regs = regs.new; turn = came (Ok result) }) (figured (operator c) (parts mem.entry.now) regs.old) }
 {
     let first = under(mem, regs);
     let second = top(mem, regs);

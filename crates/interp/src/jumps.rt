@@ -1,6 +1,7 @@
 // Conditions, jumps and ends.
-ghost use Rattle.std.specs.Prelude.{◌≡◌, length};
+ghost use Rattle.std.specs.Prelude.{◌≡◌, length, Ok};
 ghost use Rattle.regions.specs.Parts.{parts};
+ghost use Rattle.interp.specs.Outcomes.{came};
 ghost use Rattle.interp.specs.Turns.{Did, says};
 ghost use Rattle.interp.specs.Jumps.{judged, negated, jumped, taking, jumped_if, jumped_unless, between, exited};
 
@@ -8,12 +9,12 @@ use regions::Memory;
 use crate::registers::Registers;
 use crate::stack::{drop_top, replace_top, top};
 use crate::worth::{holds_in, number_in, truth};
-use crate::{NO_NUMBER, Turn};
+use crate::{Refusal, Turn};
 use values::fields::exit_number;
 
 // 1 if the top holds, otherwise 0.
 pub fn judge(mem: &mut Memory, regs: &mut Registers) -> Turn
-    ensures { ◌≡◌ {A = Did} (record { mem = parts mem.exit.now; regs = regs.new; turn = result }) (judged (parts mem.entry.now) regs.old) }
+    ensures { ◌≡◌ {A = Did} (record { mem = parts mem.exit.now; regs = regs.new; turn = came (Ok result) }) (judged (parts mem.entry.now) regs.old) }
 {
     let v = top(mem, regs);
     let b = holds_in(mem, v);
@@ -22,7 +23,7 @@ pub fn judge(mem: &mut Memory, regs: &mut Registers) -> Turn
 
 // 0 if the top holds, otherwise 1.
 pub fn negate(mem: &mut Memory, regs: &mut Registers) -> Turn
-    ensures { ◌≡◌ {A = Did} (record { mem = parts mem.exit.now; regs = regs.new; turn = result }) (negated (parts mem.entry.now) regs.old) }
+    ensures { ◌≡◌ {A = Did} (record { mem = parts mem.exit.now; regs = regs.new; turn = came (Ok result) }) (negated (parts mem.entry.now) regs.old) }
 {
     let v = top(mem, regs);
     let b = holds_in(mem, v);
@@ -39,7 +40,7 @@ pub fn jump(regs: &mut Registers, to: usize) -> Turn
 
 // Takes the top; if it is to jump, goes there.
 fn take_and_jump(mem: &mut Memory, regs: &mut Registers, goes: bool, to: usize) -> Turn
-    ensures { ◌≡◌ {A = Did} (record { mem = parts mem.exit.now; regs = regs.new; turn = result }) (taking (parts mem.entry.now) regs.old goes to) }
+    ensures { ◌≡◌ {A = Did} (record { mem = parts mem.exit.now; regs = regs.new; turn = came (Ok result) }) (taking (parts mem.entry.now) regs.old goes to) }
 {
     let turn = drop_top(mem, regs);
     if goes {
@@ -50,7 +51,7 @@ fn take_and_jump(mem: &mut Memory, regs: &mut Registers, goes: bool, to: usize) 
 
 // Takes the top, and goes there if it holds.
 pub fn jump_if(mem: &mut Memory, regs: &mut Registers, to: usize) -> Turn
-    ensures { ◌≡◌ {A = Did} (record { mem = parts mem.exit.now; regs = regs.new; turn = result }) (jumped_if (parts mem.entry.now) regs.old to) }
+    ensures { ◌≡◌ {A = Did} (record { mem = parts mem.exit.now; regs = regs.new; turn = came (Ok result) }) (jumped_if (parts mem.entry.now) regs.old to) }
 {
     let v = top(mem, regs);
     let b = holds_in(mem, v);
@@ -59,7 +60,7 @@ pub fn jump_if(mem: &mut Memory, regs: &mut Registers, to: usize) -> Turn
 
 // Takes the top, and goes there unless it holds.
 pub fn jump_unless(mem: &mut Memory, regs: &mut Registers, to: usize) -> Turn
-    ensures { ◌≡◌ {A = Did} (record { mem = parts mem.exit.now; regs = regs.new; turn = result }) (jumped_unless (parts mem.entry.now) regs.old to) }
+    ensures { ◌≡◌ {A = Did} (record { mem = parts mem.exit.now; regs = regs.new; turn = came (Ok result) }) (jumped_unless (parts mem.entry.now) regs.old to) }
 {
     let v = top(mem, regs);
     let b = holds_in(mem, v);
@@ -77,12 +78,12 @@ pub fn leave(regs: &mut Registers) -> Turn
 }
 
 // The run is over with the number on top.
-pub fn exit(mem: &Memory, regs: &Registers) -> Turn
-    ensures { result ≡ exited (parts mem.now) regs.now }
+pub fn exit(mem: &Memory, regs: &Registers) -> Result<Turn, Refusal>
+    ensures { came result ≡ exited (parts mem.now) regs.now }
 {
     let v = top(mem, regs);
     match exit_number(number_in(mem, v)) {
-        Some(k) => Turn::Done(k),
-        None => Turn::Refuse(NO_NUMBER),
+        Some(k) => Ok(Turn::Done(k)),
+        None => Err(Refusal::NoSuchNumber),
     }
 }

@@ -1,13 +1,13 @@
 // The stack of values. Each of its values holds its text, if it has one.
-ghost use Rattle.std.specs.Prelude.{◌≡◌, ◌+◌, ◌-◌, length};
+ghost use Rattle.std.specs.Prelude.{◌≡◌, ◌+◌, ◌-◌, length, Ok};
 ghost use Rattle.store.specs.declared.cells.Value.TheVariants.{Number};
 ghost use Rattle.regions.specs.Parts.{parts};
-ghost use Rattle.interp.specs.declared.Turn.TheVariants.{On};
+ghost use Rattle.interp.specs.Outcomes.{On, came};
 ghost use Rattle.interp.specs.Turns.{Did, says, stacking, placed, after, top_of, under_of, pushed, replaced, replaced_two, dropped};
 
 use regions::Memory;
 use crate::registers::Registers;
-use crate::{NO_ROOM, Turn};
+use crate::{Refusal, Turn};
 use regions::cells::{CELLS, set_stacked, stacked};
 use regions::texts::{hold_value, release_value};
 use store::cells::Value;
@@ -34,39 +34,39 @@ pub fn advance(regs: &mut Registers)
 }
 
 // A number comes onto the stack; there is no text to hold.
-fn push_number(mem: &mut Memory, regs: &mut Registers, n: i64) -> Turn
-    ensures { ◌≡◌ {A = Did} (record { mem = parts mem.exit.now; regs = regs.new; turn = result }) (pushed (parts mem.entry.now) regs.old (Number n)) }
+fn push_number(mem: &mut Memory, regs: &mut Registers, n: i64) -> Result<Turn, Refusal>
+    ensures { ◌≡◌ {A = Did} (record { mem = parts mem.exit.now; regs = regs.new; turn = came result }) (pushed (parts mem.entry.now) regs.old (Number n)) }
 {
     if regs.depth >= CELLS {
-        return Turn::Refuse(NO_ROOM);
+        return Err(Refusal::NoRoom);
     }
     set_stacked(mem, regs.depth, Value::Number(n));
     regs.depth += 1;
     advance(regs);
-    Turn::On
+    Ok(Turn::On)
 }
 
 // A value comes onto the stack.
-pub fn push(mem: &mut Memory, regs: &mut Registers, v: Value) -> Turn
-    ensures { ◌≡◌ {A = Did} (record { mem = parts mem.exit.now; regs = regs.new; turn = result }) (pushed (parts mem.entry.now) regs.old v) }
+pub fn push(mem: &mut Memory, regs: &mut Registers, v: Value) -> Result<Turn, Refusal>
+    ensures { ◌≡◌ {A = Did} (record { mem = parts mem.exit.now; regs = regs.new; turn = came result }) (pushed (parts mem.entry.now) regs.old v) }
 {
     // most values are numbers
     if let Value::Number(n) = v {
         return push_number(mem, regs, n);
     }
     if regs.depth >= CELLS {
-        return Turn::Refuse(NO_ROOM);
+        return Err(Refusal::NoRoom);
     }
     hold_value(mem, v);
     set_stacked(mem, regs.depth, v);
     regs.depth += 1;
     advance(regs);
-    Turn::On
+    Ok(Turn::On)
 }
 
 // A new value, whose only holder is the stack, comes in place of the top.
 pub fn replace_top(mem: &mut Memory, regs: &mut Registers, v: Value) -> Turn
-    ensures { ◌≡◌ {A = Did} (record { mem = parts mem.exit.now; regs = regs.new; turn = result }) (replaced (parts mem.entry.now) regs.old v) }
+    ensures { ◌≡◌ {A = Did} (record { mem = parts mem.exit.now; regs = regs.new; turn = came (Ok result) }) (replaced (parts mem.entry.now) regs.old v) }
 {
     let old = top(mem, regs);
     release_value(mem, old);
@@ -77,7 +77,7 @@ pub fn replace_top(mem: &mut Memory, regs: &mut Registers, v: Value) -> Turn
 
 // A new value comes over the two on top, which hold no texts or were let go.
 pub fn cover_two(mem: &mut Memory, regs: &mut Registers, v: Value) -> Turn
-    ensures { ◌≡◌ {A = Did} (record { mem = parts mem.exit.now; regs = regs.new; turn = result }) (says On (stacking (parts mem.entry.now) (regs.old.depth - 2) v) (placed regs.old (after regs.old.pc) (regs.old.depth - 2 + 1))) }
+    ensures { ◌≡◌ {A = Did} (record { mem = parts mem.exit.now; regs = regs.new; turn = came (Ok result) }) (says On (stacking (parts mem.entry.now) (regs.old.depth - 2) v) (placed regs.old (after regs.old.pc) (regs.old.depth - 2 + 1))) }
 {
     let at = regs.depth.saturating_sub(2);
     set_stacked(mem, at, v);
@@ -88,7 +88,7 @@ pub fn cover_two(mem: &mut Memory, regs: &mut Registers, v: Value) -> Turn
 
 // A new value comes in place of the two on top.
 pub fn replace_two(mem: &mut Memory, regs: &mut Registers, v: Value) -> Turn
-    ensures { ◌≡◌ {A = Did} (record { mem = parts mem.exit.now; regs = regs.new; turn = result }) (replaced_two (parts mem.entry.now) regs.old v) }
+    ensures { ◌≡◌ {A = Did} (record { mem = parts mem.exit.now; regs = regs.new; turn = came (Ok result) }) (replaced_two (parts mem.entry.now) regs.old v) }
 {
     let second = top(mem, regs);
     let first = under(mem, regs);
@@ -99,7 +99,7 @@ pub fn replace_two(mem: &mut Memory, regs: &mut Registers, v: Value) -> Turn
 
 // The top is gone.
 pub fn drop_top(mem: &mut Memory, regs: &mut Registers) -> Turn
-    ensures { ◌≡◌ {A = Did} (record { mem = parts mem.exit.now; regs = regs.new; turn = result }) (dropped (parts mem.entry.now) regs.old) }
+    ensures { ◌≡◌ {A = Did} (record { mem = parts mem.exit.now; regs = regs.new; turn = came (Ok result) }) (dropped (parts mem.entry.now) regs.old) }
 {
     let old = top(mem, regs);
     release_value(mem, old);

@@ -17,7 +17,7 @@ use Rattle.lines.specs.Scanning.{Scanned, scan_on, scan_of, after_scan, waiting,
 use Rattle.lines.proofs.Passing.{window_length}
 use Rattle.lines.proofs.Waiting.{after_found, after_part, found_whole}
 use Rattle.lines.proofs.Holding.{scan_says, last_holds, fresh_so}
-use Rattle.interp.specs.declared.Turn.TheVariants.{On, Ask, Refuse}
+use Rattle.interp.specs.Outcomes.{On, Ask, Refuse}
 use Rattle.interp.specs.declared.registers.Stage.{Stage}
 use Rattle.interp.specs.declared.registers.Stage.TheVariants.{Begin, Lines, End}
 use Rattle.interp.specs.declared.registers.Registers.{Registers}

@@ -22,8 +22,7 @@ use Rattle.store.proofs.Packing.{bytes_below}
 use Rattle.store.proofs.Moving.{window_below}
 use Rattle.store.proofs.Digits.{number_below}
 use Rattle.regions.specs.Parts.{Parts, with_texts}
-use Rattle.interp.specs.declared.Turn.{Turn}
-use Rattle.interp.specs.declared.Turn.TheVariants.{On, Refuse}
+use Rattle.interp.specs.Outcomes.{Turn, On, Refuse}
 use Rattle.interp.specs.declared.ops.Op.{Op}
 use Rattle.interp.specs.declared.ops.Op.TheVariants.{Load, Save, LineCount, FieldCount, GetField, SetField, Not, Opposite, Calculate, Compare, Join, Unknown, Truth, Fail, Jump, JumpIf, JumpUnless, Drop, PrintLine, PrintValues, LeaveLine, Exit, End}
 use Rattle.interp.specs.declared.registers.Registers.{Registers}

@@ -103,6 +103,12 @@ first_below bs v t =
 pub first_clean : (bs row : List ℕ) (v n : ℕ) → Read row v → row ≡ over zeros 0 bs → n ≡ min (length bs) 8 → v < 256 ^ n
 first_clean bs row v n r e l = subst (λ k. v < 256 ^ k) (sym l) (first_below bs v (first_read bs row v r e))
 
+pub first_bytes : (bs row : List ℕ) (v n : ℕ) → Read row v → row ≡ over zeros 0 bs → n ≡ min (length bs) 8 → bytes_of n v ≡ take 8 bs
+first_bytes bs row v n r e l =
+    let t : Read (take 8 bs) v = first_read bs row v r e in
+    let k : n ≡ length (take 8 bs) = omega (arith, length-take 8 bs) in
+    ap (λ x. bytes_of n x) t.word ∙ ap (λ x. bytes_of x (packed (take 8 bs))) k ∙ packed_bytes (take 8 bs) t.below
+
 -- and so it is the short text of the bytes
 pub first_short : (bs row : List ℕ) (s : Short) → Read row s.word → row ≡ over zeros 0 bs → s.len ≡ min (length bs) 8 → s ≡ short_of bs
 unfolding low_short

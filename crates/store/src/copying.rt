@@ -1,7 +1,7 @@
 // Copies of texts.
-ghost use Rattle.std.specs.Prelude.{◌≡◌, ℕ, ◌+◌, ◌-◌, ◌*◌, ◌^◌, ◌<◌, ◌≤◌, min, length, drop};
+ghost use Rattle.std.specs.Prelude.{◌≡◌, ℕ, ◌+◌, ◌-◌, ◌*◌, ◌^◌, ◌<◌, ◌≤◌, min, length, take, drop};
 ghost use Rattle.std.proofs.Math.Seq.{paste};
-ghost use Rattle.store.specs.Words.{over};
+ghost use Rattle.store.specs.Words.{bytes_of, over};
 ghost use Rattle.store.specs.Short.{Read, short_of};
 
 use crate::bytes::Bytes;
@@ -53,7 +53,8 @@ fn word_of(bytes: &[u8; LONGEST]) -> u64
 
 // The first eight bytes of a text, or all of them where it has no more.
 pub fn short_of<T: Bytes>(t: &T) -> Short
-    ensures { result ≡ short_of (T.Bytes.bytes t.now) }
+    ensures short { result ≡ short_of (T.Bytes.bytes t.now) }
+    ensures bytes { bytes_of result.len result.word ≡ take LONGEST (T.Bytes.bytes t.now) }
 {
     let mut bytes = [0u8; LONGEST];
     let len = copy_out(t, 0, &mut bytes, 0);

@@ -1,6 +1,6 @@
 use Rattle.std.proofs.Common.{sym, ◌∙◌, arith}
 use native.Mathlib.Nat.{sub-zero}
-use Rattle.interp.specs.declared.Turn.TheVariants.{On, Ask, Done, Refuse}
+use Rattle.interp.specs.Outcomes.{On, Ask, Done, Refuse}
 use Rattle.engine.proofs.Stepping.{none_behind, all_behind, Round, round_behind, round_loop, full_loop, spent_loop, turn_more}
 use Rattle.engine.proofs.steps.turns.Goals as goal
 

@@ -8,7 +8,7 @@ use Rattle.store.proofs.cells.new_text.Goals as goal
 pub returns-then-n-le-LONGEST : goal.returns-then-n-le-LONGEST
 returns-then-n-le-LONGEST g c =
     let bs : List ℕ = g.T.Bytes.bytes c.args.t.now in
-    made_short 20480 77822 (space 20480 c.args.texts.now) bs c.short_of.result (omega arith) c.short_of.ensures
+    made_short 20480 77822 (space 20480 c.args.texts.now) bs c.short_of.result (omega arith) c.short_of.ensures.short
 
 pub returns-in_err-handle : goal.returns-in_err-handle
 returns-in_err-handle g c =
