@@ -86,6 +86,9 @@ pub record Round (m : List ℕ) (r : Registers) (out m₁ : List ℕ) (r₁ : Re
   pub did : ◌≡◌ {A = Did} (record { mem = parts m₁; regs = r₁; turn = t }) (turned (parts m) r)
   pub row : out₁ ≡ lent_after out r.used (turned_text (parts m) r)
 
+pub round_as : (m : List ℕ) (r : Registers) (out m₁ : List ℕ) (r₁ : Registers) (out₁ : List ℕ) {t t₁ : Turn} → t ≡ t₁ → Round m r out m₁ r₁ out₁ t → Round m r out m₁ r₁ out₁ t₁
+round_as m r out m₁ r₁ out₁ e h = subst (λ t. Round m r out m₁ r₁ out₁ t) e h
+
 round_stands : (m : List ℕ) (r : Registers) (out m₁ : List ℕ) (r₁ : Registers) (out₁ : List ℕ) (t : Turn) → Round m r out m₁ r₁ out₁ t →
     Stands out r.used (turned_text (parts m) r) out₁ r₁.used
 round_stands m r out m₁ r₁ out₁ t h =

@@ -27,7 +27,8 @@ use Rattle.interp.specs.Texts.{text_in, joined_in, joined_long, joined_as, joine
 use Rattle.interp.specs.Turns.{Did, says, top_of, under_of, worth_in, pushed, replaced, replaced_two, dropped}
 use Rattle.engine.specs.Prints.{few, print_regs, printed_so, line_printed, values_printed, line_text, values_text, pending_text, pending_left, resumed}
 use Rattle.engine.specs.Setting.{line_set, nth_set_by, nth_set, field_set_by, field_set}
-use Rattle.engine.specs.Dispatch.{fetched, performed, text_printed, turned, turned_text}
+use Rattle.interp.specs.Dispatch.{fetched}
+use Rattle.engine.specs.Dispatch.{performed, text_printed, turned, turned_text}
 use Rattle.engine.specs.Scenes.{with_room}
 
 -- so many bytes are used

@@ -1,5 +1,5 @@
 // Where the fields of a text stand, and which numbers are those of fields and exits.
-ghost use Rattle.std.specs.Prelude.{◌≡◌};
+ghost use Rattle.std.specs.Prelude.{◌≡◌, ◌+◌, ◌^◌, ◌<◌, IfSome};
 ghost use Rattle.language.specs.Meaning.{State, field_number, exit_with};
 ghost use Rattle.store.specs.Numbers.{number};
 ghost use Rattle.values.specs.Fields.{NextField, FieldsTold, listed, exited};
@@ -16,7 +16,8 @@ const LAST_EXIT: i64 = 255;
 
 // The first field that begins at `from` or behind it.
 pub fn next_field<T: Bytes>(t: &T, from: usize) -> Option<Place>
-    ensures { NextField (T.Bytes.bytes t.now) from result }
+    ensures next { NextField (T.Bytes.bytes t.now) from result }
+    ensures ends { IfSome result (λ p. p.start + p.len < 2 ^ 64) }
 {
     let start = past::<Blank, T>(t, from);
     let end = past::<Solid, T>(t, start);
