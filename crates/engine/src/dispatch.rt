@@ -5,13 +5,13 @@ ghost use Rattle.interp.specs.Outcomes.{came};
 ghost use Rattle.interp.specs.Turns.{Did};
 ghost use Rattle.engine.specs.Dispatch.{performed, text_printed, turned, turned_text, lent_after};
 
-use regions::Memory;
 use crate::prints::{begin_line, begin_values};
 use crate::setting::set_field;
 use interp::between::next_line;
 use interp::ops::Op;
 use interp::registers::Registers;
 use interp::{Refusal, Turn, dispatch};
+use regions::Memory;
 
 // An operation.
 fn perform(mem: &mut Memory, regs: &mut Registers, op: Op, out: &mut [u8]) -> Result<Turn, Refusal>

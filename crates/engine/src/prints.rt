@@ -7,10 +7,10 @@ ghost use Rattle.interp.specs.Turns.{Did};
 ghost use Rattle.engine.specs.Prints.{few, advanced, released, print_parts, print_regs, printed_so, line_text, values_text, line_printed, values_printed, pending_left, resumed};
 ghost use Rattle.engine.specs.Dispatch.{lent_after};
 
-use regions::Memory;
 use interp::Turn;
 use interp::registers::{Print, Registers};
 use interp::stack::advance;
+use regions::Memory;
 use regions::cells::{CELLS, stacked};
 use regions::texts::release_value;
 use rows::{Printed, print_line, print_values};

@@ -9,7 +9,6 @@ ghost use Rattle.interp.specs.Turns.{Did};
 ghost use Rattle.interp.specs.Texts.{text_in};
 ghost use Rattle.engine.specs.Setting.{relined, line_set, nth_set, field_set};
 
-use regions::Memory;
 use interp::registers::Registers;
 use interp::stack::{drop_top, top, under};
 use interp::texts::text_len;
@@ -18,6 +17,7 @@ use interp::{Refusal, Turn};
 use lines::building::{build, free_buffer};
 use lines::cutting::recut;
 use lines::line::{Line, nth_field};
+use regions::Memory;
 use regions::fields::{FIELDS, Place};
 use regions::lines::put_text;
 use regions::texts::text_view;

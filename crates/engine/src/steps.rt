@@ -5,13 +5,13 @@ ghost use Rattle.engine.specs.Scenes.{taken_in, halt_of, machine_parts};
 ghost use Rattle.interp.specs.Outcomes.{came};
 ghost use Rattle.engine.specs.Steps.{told_of, scene_in, PutBehind, said, answer_of, Answers};
 
-use regions::Memory;
 use crate::dispatch::turn;
 use crate::prints::resume;
 use crate::{Answer, Event};
-use interp::{Refusal, Turn};
 use interp::registers::{Registers, load_registers, save_registers};
+use interp::{Refusal, Turn};
 use lines::input::take_in;
+use regions::Memory;
 use rows::ROW;
 
 // How many turns a step makes at most.
@@ -33,7 +33,12 @@ fn begin(mem: &mut Memory, event: Event, out: &mut [u8]) -> Registers
 }
 
 // Up to so many turns; fewer if the row is full, or one of them asks, ends or refuses, which is said.
-fn turns(mem: &mut Memory, regs: &mut Registers, out: &mut [u8], budget: usize) -> Result<Turn, Refusal>
+fn turns(
+    mem: &mut Memory,
+    regs: &mut Registers,
+    out: &mut [u8],
+    budget: usize,
+) -> Result<Turn, Refusal>
     requires { (4096 ≤ length out.old) × (regs.old.used ≤ 4096) }
     ensures halt { halt_of (came result) (scene_in mem.new regs.new out.new) ≡ loop machine_parts budget (scene_in mem.old regs.old out.old) }
     ensures row { PutBehind out.old regs.old.used out.new regs.new.used }

@@ -11,7 +11,6 @@ use Rattle.store.specs.declared.cells.Value.{Value}
 use Rattle.store.specs.declared.cells.Value.TheVariants.{Number}
 use Rattle.regions.specs.Parts.{Parts}
 use Rattle.interp.specs.declared.Refusal.{Refusal}
-use Rattle.interp.specs.declared.Refusal.TheVariants as Refusal
 use Rattle.interp.specs.Outcomes.{Turn, Refuse}
 use Rattle.interp.specs.declared.registers.Registers.{Registers}
 use Rattle.interp.specs.Turns.{Did, says, top_of, under_of, worth_in, replaced, replaced_two}

@@ -5,12 +5,12 @@ ghost use Rattle.interp.specs.Outcomes.{came};
 ghost use Rattle.interp.specs.Turns.{Did};
 ghost use Rattle.interp.specs.Between.{started_regs, started_turn, closing, waited_regs, waited_turn, last_taken, line_sought, line_next};
 
-use regions::Memory;
 use crate::registers::{Registers, Stage};
 use crate::{Refusal, Turn};
 use lines::cutting::len_at;
 use lines::input::{Input, last_line, scan};
 use lines::line::Line;
+use regions::Memory;
 use regions::fields::{FIELDS, Place};
 
 // The longest line that the language has.

@@ -8,11 +8,11 @@ ghost use Rattle.interp.specs.Outcomes.{came};
 ghost use Rattle.interp.specs.Turns.{Did, worth_in};
 ghost use Rattle.interp.specs.Numbers.{Compares, figured};
 
-use regions::Memory;
 use crate::Turn;
 use crate::registers::Registers;
 use crate::stack::{cover_two, top, under};
 use crate::worth::{no_bytes, truth};
+use regions::Memory;
 use regions::texts::{release_value, text_view};
 use store::bytes::Bytes;
 use store::cells::Value;

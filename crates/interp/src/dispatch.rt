@@ -5,7 +5,6 @@ ghost use Rattle.interp.specs.Outcomes.{came};
 ghost use Rattle.interp.specs.Turns.{Did};
 ghost use Rattle.interp.specs.Dispatch.{fetched, performed, turned};
 
-use regions::Memory;
 use crate::between::next_line;
 use crate::comparing::compare_two;
 use crate::fields::get_field;
@@ -17,7 +16,7 @@ use crate::slots::{count_fields, count_lines, load_slot, save_slot};
 use crate::stack::drop_top;
 use crate::texts::join;
 use crate::{Refusal, Turn};
-use regions::code_at;
+use regions::{Memory, code_at};
 
 // The next operation of the code.
 pub fn fetch(mem: &Memory, regs: &Registers) -> Op

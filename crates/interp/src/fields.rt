@@ -8,7 +8,6 @@ ghost use Rattle.interp.specs.Outcomes.{came};
 ghost use Rattle.interp.specs.Turns.{Did};
 ghost use Rattle.interp.specs.Fields.{field_place, field_got};
 
-use regions::Memory;
 use crate::registers::Registers;
 use crate::stack::{replace_top, top};
 use crate::texts::short_packed;
@@ -16,6 +15,7 @@ use crate::worth::number_in;
 use crate::{Refusal, Turn};
 use lines::cutting::len_at;
 use lines::line::{Line, nth_field};
+use regions::Memory;
 use regions::fields::Place;
 use regions::lines::line_window;
 use regions::texts::{fill_text, new_handle};

@@ -5,11 +5,11 @@ ghost use Rattle.interp.specs.Outcomes.{came};
 ghost use Rattle.interp.specs.Turns.{Did, says};
 ghost use Rattle.interp.specs.Jumps.{judged, negated, jumped, taking, jumped_if, jumped_unless, between, exited};
 
-use regions::Memory;
 use crate::registers::Registers;
 use crate::stack::{drop_top, replace_top, top};
 use crate::worth::{holds_in, number_in, truth};
 use crate::{Refusal, Turn};
+use regions::Memory;
 use values::fields::exit_number;
 
 // 1 if the top holds, otherwise 0.

@@ -7,11 +7,11 @@ ghost use Rattle.interp.specs.Outcomes.{came};
 ghost use Rattle.interp.specs.Turns.{Did, under_of, top_of};
 ghost use Rattle.interp.specs.Numbers.{refusal_of, figured, figured_one};
 
-use regions::Memory;
 use crate::registers::Registers;
 use crate::stack::{cover_two, replace_top, top, under};
 use crate::worth::number_in;
 use crate::{Refusal, Turn};
+use regions::Memory;
 use regions::texts::release_value;
 use store::cells::Value;
 use values::numbers::{Arithmetic, Trouble, calculate, negate};
@@ -28,7 +28,13 @@ impl From<Trouble> for Refusal {
 }
 
 // A number from the two on top, which are numbers.
-fn reckon_numbers(mem: &mut Memory, regs: &mut Registers, c: Arithmetic, a: i64, b: i64) -> Result<Turn, Refusal>
+fn reckon_numbers(
+    mem: &mut Memory,
+    regs: &mut Registers,
+    c: Arithmetic,
+    a: i64,
+    b: i64,
+) -> Result<Turn, Refusal>
     requires { (Number a ≡ under_of (parts mem.old) regs.old) × (Number b ≡ top_of (parts mem.old) regs.old) }
     ensures { ◌≡◌ {A = Did} (record { mem = parts mem.exit.now; regs = regs.new; turn = came result }) (figured (operation c) (parts mem.entry.now) regs.old) }
 {

@@ -3,10 +3,10 @@ ghost use Rattle.std.specs.Prelude.{◌≡◌, ℕ, ◌^◌, ◌<◌, ◌++◌, 
 ghost use Rattle.regions.specs.Parts.{parts, with_registers};
 ghost use Rattle.interp.specs.Registers.{stage_of, line_in, input_in, print_in, registers_in, row_of, saved_row, RegistersComeBack};
 
-use regions::Memory;
 use lines::cutting::Cut;
 use lines::input::Input;
 use lines::line::Line;
+use regions::Memory;
 use regions::fields::Place;
 
 // Which rules are being worked on.

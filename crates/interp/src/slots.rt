@@ -6,10 +6,10 @@ ghost use Rattle.interp.specs.Outcomes.{On, came};
 ghost use Rattle.interp.specs.Turns.{Did, says, releasing, placed, after};
 ghost use Rattle.interp.specs.Slots.{slot_of, slotting, loaded, kept_in, line_counted, fields_counted};
 
-use regions::Memory;
-use crate::{Refusal, Turn};
 use crate::registers::Registers;
 use crate::stack::{advance, push, top};
+use crate::{Refusal, Turn};
+use regions::Memory;
 use regions::cells::{set_slot, slot};
 use regions::texts::{hold_value, release_value};
 use store::cells::Value;

@@ -5,9 +5,9 @@ ghost use Rattle.regions.specs.Parts.{parts};
 ghost use Rattle.interp.specs.Outcomes.{On, came};
 ghost use Rattle.interp.specs.Turns.{Did, says, stacking, placed, after, top_of, under_of, pushed, replaced, replaced_two, dropped};
 
-use regions::Memory;
 use crate::registers::Registers;
 use crate::{Refusal, Turn};
+use regions::Memory;
 use regions::cells::{CELLS, set_stacked, stacked};
 use regions::texts::{hold_value, release_value};
 use store::cells::Value;

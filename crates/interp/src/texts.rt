@@ -7,11 +7,11 @@ ghost use Rattle.interp.specs.Outcomes.{came};
 ghost use Rattle.interp.specs.Turns.{Did};
 ghost use Rattle.interp.specs.Texts.{text_in, joined_long, joined};
 
-use regions::Memory;
 use crate::registers::Registers;
 use crate::stack::{cover_two, top, under};
 use crate::worth::no_bytes;
 use crate::{Refusal, Turn};
+use regions::Memory;
 use regions::texts::{fill_text, join_text, new_handle, release_value, text_view};
 use store::bytes::Bytes;
 use store::cells::Value;

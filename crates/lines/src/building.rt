@@ -6,9 +6,9 @@ ghost use Rattle.regions.specs.Parts.{Parts, parts, with_fields, with_lines};
 ghost use Rattle.lines.specs.Fields.{noted};
 ghost use Rattle.lines.specs.Building.{buffer_of, piece_of, pieces, all_pieces, total, laid, laid_one, offsets, built, after_built, after_set, after_line, line_of};
 
-use regions::Memory;
 use crate::cutting::recut;
 use crate::line::{Line, nth_field};
+use regions::Memory;
 use regions::fields::{Place, set_field};
 use regions::lines::{move_lines, put_line_byte, put_text};
 use store::bytes::Bytes;

@@ -5,9 +5,9 @@ ghost use Rattle.regions.specs.Parts.{Parts, parts, with_fields, with_lines};
 ghost use Rattle.lines.specs.Cutting.{Cuts, cuts_of, fresh_cut, closed_words, closed_count};
 ghost use Rattle.lines.specs.Scanning.{scan_on, scan_of, found_of, after_scan, waits_at, waiting, taken_lines, after_taken, last_words, last_of, after_last};
 
-use regions::Memory;
 use crate::cutting::{Cut, close, fresh, len_at, pass};
 use crate::line::Line;
+use regions::Memory;
 use regions::fields::Place;
 use regions::lines::{byte_within, put_piece, shift_lines};
 

@@ -14,9 +14,9 @@ ghost use Rattle.rows.specs.Pens.{writing, put};
 ghost use Rattle.rows.specs.Rows.{nth_text, worths, topmost, printed_line, over_row, went};
 ghost use Rattle.rows.specs.Laws.{PrintLaws};
 
-use regions::Memory;
 use crate::copying::write_packed;
 use crate::pen::{Pen, write_byte, write_text};
+use regions::Memory;
 use regions::cells::stacked;
 use regions::fields::Place;
 use regions::lines::line_window;

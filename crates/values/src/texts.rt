@@ -5,7 +5,6 @@ ghost use Rattle.store.specs.Numbers.{number};
 ghost use Rattle.values.specs.Texts.{run, Runs, dash, plain};
 
 use store::bytes::Bytes;
-
 pub use store::bytes::is_blank;
 
 // Of more digits than these the first ones count.

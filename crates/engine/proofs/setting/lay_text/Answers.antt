@@ -1,4 +1,4 @@
-use Rattle.std.proofs.Common.{◌≡◌, ℕ, ◌+◌, ◌≤◌, take, length, refl, ap, ◌∙◌, zero-le, arith, take_all}
+use Rattle.std.proofs.Common.{◌≡◌, ℕ, ◌+◌, ◌≤◌, take, length, refl, ap, ◌∙◌, arith, take_all}
 use Rattle.store.specs.Words.{put_bytes}
 use Rattle.store.specs.Space.{text_of}
 use Rattle.regions.specs.Parts.{Parts, parts, with_lines}

@@ -1,4 +1,4 @@
-use Rattle.std.proofs.Common.{◌≡◌, ◌-◌, ◌≤◌, take}
+use Rattle.std.proofs.Common.{◌≡◌, take}
 use Rattle.store.specs.Words.{put_bytes}
 use Rattle.store.specs.Space.{text_of}
 use Rattle.regions.specs.Parts.{parts, with_lines}

@@ -1,4 +1,4 @@
-use Rattle.std.proofs.Common.{sym, ◌∙◌, subst}
+use Rattle.std.proofs.Common.{sym, subst}
 use Rattle.semantics.specs.Engine.{goes_by}
 use Rattle.engine.specs.Scenes.{machine_parts}
 use Rattle.engine.specs.Steps.{told_of, Answers}

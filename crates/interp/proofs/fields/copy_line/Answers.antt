@@ -1,4 +1,4 @@
-use Rattle.std.proofs.Common.{refl, ap, ◌∙◌, zero-le, arith, take_all}
+use Rattle.std.proofs.Common.{refl, ap, ◌∙◌, arith, take_all}
 use Rattle.store.specs.Words.{window, put_bytes}
 use Rattle.store.specs.Space.{written}
 use Rattle.regions.specs.Parts.{parts, with_texts}

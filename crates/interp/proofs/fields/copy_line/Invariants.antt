@@ -1,4 +1,4 @@
-use Rattle.std.proofs.Common.{◌≡◌, ◌-◌, ◌≤◌, take}
+use Rattle.std.proofs.Common.{◌≡◌, take}
 use Rattle.store.specs.Words.{window}
 use Rattle.store.specs.Space.{written}
 use Rattle.regions.specs.Parts.{parts, with_texts}

@@ -1,4 +1,4 @@
-use Rattle.std.proofs.Common.{◌≡◌, ℕ, ◌≤◌, List, length, take, sym, ap, ◌∙◌, subst, take_all, rules}
+use Rattle.std.proofs.Common.{◌≡◌, ℕ, ◌≤◌, List, length, take, ap, ◌∙◌, take_all, rules}
 use Rattle.language.specs.Text.{as_text}
 use Rattle.regions.specs.Parts.{parts}
 use Rattle.interp.specs.Texts.{text_in}

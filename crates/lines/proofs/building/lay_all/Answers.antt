@@ -11,7 +11,7 @@ pub lay-requires : goal.lay-requires
 lay-requires c = (
   omega (arith, c.free_buffer-start.ensures, buffer_below c.args.line),
   room_left (parts c.args.mem.now).fields (parts c.loop-i.mem).fields c.args.line c.args.n c.args.len c.args.count c.loop-i.i c.loop-i.at c.piece_for-p.result (omega arith) c.piece_for-p.ensures
-        (c.loop-i.invariant.2 c.loop-i.i (omega arith)) c.loop-i.invariant.1 c.requires,
+      (c.loop-i.invariant.2 c.loop-i.i (omega arith)) c.loop-i.invariant.1 c.requires,
 )
 
 pub overflow_add-at : goal.overflow_add-at

@@ -2,7 +2,7 @@ use Rattle.std.proofs.Common.{◌≡◌, ℕ, ◌+◌, List, length, drop, slice
 use Rattle.store.specs.Words.{unpacked, window}
 use Rattle.regions.specs.Parts.{Parts, parts, with_fields}
 use Rattle.regions.proofs.Regions.{lines_length}
-use Rattle.lines.specs.Cutting.{cuts_of, fresh_cut, pass_all, closed, closed_count, recut_of}
+use Rattle.lines.specs.Cutting.{cuts_of, pass_all, closed, closed_count, recut_of}
 use Rattle.lines.proofs.Passing.{window_length, pass_at, pass_turn, pass_end, fields_only, byte_of}
 use Rattle.lines.proofs.cutting.recut.Goals as goal
 

@@ -1,4 +1,4 @@
-use Rattle.std.proofs.Common.{◌≡◌, ◌-◌, drop}
+use Rattle.std.proofs.Common.{◌≡◌, drop}
 use Rattle.store.specs.Words.{window}
 use Rattle.regions.specs.Parts.{parts, with_fields}
 use Rattle.lines.specs.Cutting.{cuts_of, fresh_cut, pass_all}
