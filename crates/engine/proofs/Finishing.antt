@@ -6,12 +6,10 @@ use Rattle.language.specs.Run.{Event, more, done, refused}
 use Rattle.semantics.specs.Engine.{loop, writes_or, finish, goes_by}
 use Rattle.regions.specs.Parts.{parts, joined}
 use Rattle.regions.proofs.Regions.{joined_parts}
-use Rattle.interp.specs.declared.Turn.{Turn}
-use Rattle.interp.specs.declared.Turn.TheVariants.{On, Ask, Done, Refuse}
+use Rattle.interp.specs.Outcomes.{Turn, On, Ask, Done, Refuse}
 use Rattle.interp.specs.declared.registers.Registers.{Registers}
-use Rattle.engine.specs.declared.Answer.TheVariants.{Ask as Asks, Write, Done as Ends, Refuse as Refuses}
 use Rattle.engine.specs.Scenes.{Scene, halt_of, put_away, saved, fitted, taken_in, machine_parts}
-use Rattle.engine.specs.Steps.{scene_in, PutBehind, Answers, plain_answer, answer_of}
+use Rattle.engine.specs.Steps.{scene_in, PutBehind, Ask as Asks, Write, Done as Ends, Refuse as Refuses, Answers, plain_answer, answer_of}
 use Rattle.engine.proofs.Saving.{fitted_same}
 use Rattle.engine.proofs.Stepping.{all_behind}
 

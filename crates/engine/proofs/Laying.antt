@@ -1,5 +1,5 @@
 -- Texts that are laid into the region of lines, and lines that are made anew.
-use Rattle.std.proofs.Common.{◌≡◌, ℕ, ◌+◌, ◌-◌, ◌<◌, ◌≤◌, min, Bool, true, false, eqb, ltb, leb, List, [], ◌∷◌, ◌++◌, length, get_or, take, drop, ℤ, Some, None, sym, refl, ap, ◌∙◌, inl, inr, arith, length-drop, length-take, length-take-le, take_all, take-add}
+use Rattle.std.proofs.Common.{◌≡◌, ℕ, ◌+◌, ◌-◌, ◌<◌, ◌≤◌, min, Bool, true, false, eqb, ltb, leb, List, [], ◌∷◌, length, get_or, take, drop, ℤ, Some, None, sym, refl, ap, ◌∙◌, inl, inr, arith, length-drop, length-take, length-take-le, take_all, take-add}
 use lib.Seq.{paste, take-paste}
 use Rattle.std.proofs.lemmas.List.{drop_all}
 use Rattle.std.proofs.lemmas.Bool.{cases_lt, eq-eqb, ne_eqb}
@@ -13,7 +13,7 @@ use Rattle.store.specs.Space.{space, text_of}
 use Rattle.store.proofs.Packing.{length_unpacked}
 use Rattle.store.proofs.Putting.{puts_append}
 use Rattle.regions.specs.Parts.{Parts, part, parts, with_lines}
-use Rattle.regions.specs.declared.fields.Place.{Place}
+use Rattle.store.specs.declared.place.Place.{Place}
 use Rattle.regions.specs.Places.{place_of}
 use Rattle.regions.proofs.Regions.{part_length}
 use Rattle.lines.specs.declared.line.Line.{Line}
@@ -21,7 +21,7 @@ use Rattle.lines.specs.Lines.{place, within, nth_place}
 use Rattle.lines.specs.Building.{total, all_pieces, laid, built, after_built, filled, filled_if, after_set, buffer_of}
 use Rattle.lines.proofs.Keeping.{built_texts}
 use Rattle.interp.specs.declared.registers.Registers.{Registers}
-use Rattle.interp.specs.declared.Turn.TheVariants.{Refuse}
+use Rattle.interp.specs.Outcomes.{Refuse}
 use Rattle.interp.specs.Turns.{says, top_of, under_of, worth_in}
 use Rattle.interp.specs.Texts.{text_in}
 use Rattle.engine.specs.Setting.{relined, line_set, nth_set_by, nth_set, field_set_by, field_set}
@@ -43,16 +43,14 @@ chunk d bs row at n l e f =
     ap (take (n - 0)) (f ∙ ap (paste d 0 s) k) ∙ ap (λ x. take x (paste d 0 s n)) z ∙ take-paste d 0 s n (omega arith) (omega arith) ∙ take_most s 64 n (omega arith)
 
 -- a piece of a text behind those that are there
-pub laid_more : (p q q₁ : Parts) (h to at k : ℕ) → q ≡ with_lines p (put_bytes p.lines to (take at (text_of 77822 p.texts h))) →
+pub laid_more : (p q q₁ : Parts) (h to at : ℕ) → q ≡ with_lines p (put_bytes p.lines to (take at (text_of 77822 p.texts h))) →
     q₁ ≡ with_lines q (put_bytes q.lines (to + at) (take 64 (drop at (text_of 77822 q.texts h)))) → at ≤ length (text_of 77822 p.texts h) →
-    k ≡ min 64 (length (text_of 77822 p.texts h) - at) → q₁ ≡ with_lines p (put_bytes p.lines to (take (at + k) (text_of 77822 p.texts h)))
-laid_more p q q₁ h to at k e f i g =
+    q₁ ≡ with_lines p (put_bytes p.lines to (take (at + 64) (text_of 77822 p.texts h)))
+laid_more p q q₁ h to at e f i =
     let bs : List ℕ = text_of 77822 p.texts h in
-    let l = length-drop at bs in
-    let a : take (at + k) bs ≡ take at bs ++ take 64 (drop at bs) = take-add at k bs ∙ ap (λ z. take at bs ++ z) (take_most (drop at bs) 64 k (omega arith)) in
     let b : to + length (take at bs) ≡ to + at = ap (λ n. to + n) (length-take-le at bs i) in
     f ∙ ap (λ x. with_lines x (put_bytes x.lines (to + at) (take 64 (drop at (text_of 77822 x.texts h))))) e
-    ∙ sym (ap (λ z. with_lines p (put_bytes p.lines to z)) a
+    ∙ sym (ap (λ z. with_lines p (put_bytes p.lines to z)) (take-add at 64 bs)
     ∙ ap (with_lines p) (puts_append p.lines to (take at bs) (take 64 (drop at bs)) ∙ ap (λ n. put_bytes (put_bytes p.lines to (take at bs)) n (take 64 (drop at bs))) b))
 
 -- a text has no more bytes than the region of texts

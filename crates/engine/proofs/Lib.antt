@@ -4,3 +4,4 @@ mod Printing
 pub mod Saving
 mod Stepping
 mod Using
+mod Quiet

@@ -4,8 +4,8 @@ use Rattle.std.proofs.lemmas.Bool.{lt-ltb}
 use Rattle.language.specs.Text.{pick, none_of}
 use Rattle.language.specs.Run.{Event, more, all_small, started, bytes, no_more, next}
 use Rattle.semantics.specs.Engine.{Halt, tired, asked, halted, loop, turned, writes_or, finish, goes_by}
-use Rattle.interp.specs.declared.Turn
-use Rattle.interp.specs.declared.Turn.TheVariants.{On, Ask, Done, Refuse}
+use Rattle.interp.specs.Outcomes as Turn
+use Rattle.interp.specs.Outcomes.{On, Ask, Done, Refuse}
 use Rattle.engine.specs.Scenes.{Scene, fitted, saved, machine_parts, taken_in, turn_of}
 use Rattle.engine.specs.Steps.{StepsSteady}
 

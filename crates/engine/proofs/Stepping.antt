@@ -10,8 +10,7 @@ use Rattle.regions.specs.Parts.{Parts, parts, with_lines}
 use Rattle.lines.specs.declared.input.Input.{Input}
 use Rattle.lines.specs.Scanning.{waiting, taken_lines, after_taken, input_of}
 use Rattle.rows.specs.Rows.{over_row}
-use Rattle.interp.specs.declared.Turn.{Turn}
-use Rattle.interp.specs.declared.Turn.TheVariants.{On}
+use Rattle.interp.specs.Outcomes.{Turn, On}
 use Rattle.interp.specs.declared.registers.Registers.{Registers}
 use Rattle.interp.specs.Between.{with_input}
 use Rattle.interp.specs.Registers.{registers_in}
@@ -86,6 +85,9 @@ pub record Round (m : List ℕ) (r : Registers) (out m₁ : List ℕ) (r₁ : Re
   pub size : length m₁ ≡ length m
   pub did : ◌≡◌ {A = Did} (record { mem = parts m₁; regs = r₁; turn = t }) (turned (parts m) r)
   pub row : out₁ ≡ lent_after out r.used (turned_text (parts m) r)
+
+pub round_as : (m : List ℕ) (r : Registers) (out m₁ : List ℕ) (r₁ : Registers) (out₁ : List ℕ) {t t₁ : Turn} → t ≡ t₁ → Round m r out m₁ r₁ out₁ t → Round m r out m₁ r₁ out₁ t₁
+round_as m r out m₁ r₁ out₁ e h = subst (λ t. Round m r out m₁ r₁ out₁ t) e h
 
 round_stands : (m : List ℕ) (r : Registers) (out m₁ : List ℕ) (r₁ : Registers) (out₁ : List ℕ) (t : Turn) → Round m r out m₁ r₁ out₁ t →
     Stands out r.used (turned_text (parts m) r) out₁ r₁.used

@@ -9,13 +9,10 @@ use Rattle.values.specs.Compare.{operator}
 use Rattle.regions.specs.Parts.{Parts, with_fields}
 use Rattle.lines.specs.declared.line.Line.{Line}
 use Rattle.lines.specs.declared.input.Input.{Input}
-use Rattle.lines.specs.declared.input.Found.{Found}
-use Rattle.lines.specs.declared.input.Found.TheVariants.{Whole, Part}
 use Rattle.lines.specs.Scanning.{scan_of, after_scan, found_of}
 use Rattle.rows.specs.declared.Printed.{Printed}
 use Rattle.rows.specs.Rows.{went}
-use Rattle.interp.specs.declared.Turn.{Turn}
-use Rattle.interp.specs.declared.Turn.TheVariants.{On}
+use Rattle.interp.specs.Outcomes.{Turn, On}
 use Rattle.interp.specs.declared.ops.Op.{Op}
 use Rattle.interp.specs.declared.ops.Op.TheVariants.{Load, Save, LineCount, FieldCount, GetField, SetField, Not, Opposite, Calculate, Compare, Join, Unknown, Truth, Fail, Jump, JumpIf, JumpUnless, Drop, PrintLine, PrintValues, LeaveLine, Exit, End}
 use Rattle.interp.specs.declared.registers.Stage.{Stage}
@@ -30,7 +27,8 @@ use Rattle.interp.specs.Texts.{text_in, joined_in, joined_long, joined_as, joine
 use Rattle.interp.specs.Turns.{Did, says, top_of, under_of, worth_in, pushed, replaced, replaced_two, dropped}
 use Rattle.engine.specs.Prints.{few, print_regs, printed_so, line_printed, values_printed, line_text, values_text, pending_text, pending_left, resumed}
 use Rattle.engine.specs.Setting.{line_set, nth_set_by, nth_set, field_set_by, field_set}
-use Rattle.engine.specs.Dispatch.{fetched, performed, text_printed, turned, turned_text}
+use Rattle.interp.specs.Dispatch.{fetched}
+use Rattle.engine.specs.Dispatch.{performed, text_printed, turned, turned_text}
 use Rattle.engine.specs.Scenes.{with_room}
 
 -- so many bytes are used
@@ -141,9 +139,9 @@ last_uses : (p : Parts) (r : Registers) (i : Input) → Uses (last_taken p r i) 
 unfolding last_taken
 last_uses p r i = last_started_uses _ r _ _
 
-sought_uses : (p : Parts) (r : Registers) (i : Input) (f : Found) → Uses (sought p r i f) r.used
-sought_uses p r i (Whole l) = started_uses r i l
-sought_uses p r i Part = either_uses i.ended _ _ _ (last_uses p r i) (waited_uses r i)
+sought_uses : (p : Parts) (r : Registers) (i : Input) (f : Option Line) → Uses (sought p r i f) r.used
+sought_uses p r i (Some l) = started_uses r i l
+sought_uses p r i None = either_uses i.ended _ _ _ (last_uses p r i) (waited_uses r i)
 
 line_sought_uses : (p : Parts) (r : Registers) → Uses (line_sought p r) r.used
 unfolding line_sought

@@ -1,29 +1,24 @@
 -- What a turn does to the regions and the registers, and what it prints. Assumes nothing: these are definitions.
-use Rattle.std.specs.Prelude.{ℕ, List, Some, None, Option, slice_index}
+use Rattle.std.specs.Prelude.{ℕ, List, Some, None, Option}
 use Rattle.language.specs.Text.{pick}
-use Rattle.assembly.specs.Assembly.{op_of}
 use Rattle.values.specs.Numbers.{operation}
 use Rattle.values.specs.Compare.{operator}
 use Rattle.regions.specs.Parts.{Parts}
 use Rattle.rows.specs.Rows.{over_row}
-use Rattle.interp.specs.declared.Turn.TheVariants.{On, Refuse}
+use Rattle.interp.specs.Outcomes.{On, Refuse}
 use Rattle.interp.specs.declared.ops.Op.{Op}
 use Rattle.interp.specs.declared.ops.Op.TheVariants.{Load, Save, LineCount, FieldCount, GetField, SetField, Not, Opposite, Calculate, Compare, Join, Unknown, Truth, Fail, Jump, JumpIf, JumpUnless, Drop, PrintLine, PrintValues, LeaveLine, Exit, End}
 use Rattle.interp.specs.declared.registers.Registers.{Registers}
 use Rattle.interp.specs.Between.{line_next}
+use Rattle.interp.specs.Dispatch.{fetched}
 use Rattle.interp.specs.Fields.{field_got}
 use Rattle.interp.specs.Jumps.{judged, negated, jumped, jumped_if, jumped_unless, between, exited}
 use Rattle.interp.specs.Numbers.{figured, figured_one}
-use Rattle.interp.specs.Ops.{op_in}
 use Rattle.interp.specs.Slots.{loaded, kept_in, line_counted, fields_counted}
 use Rattle.interp.specs.Texts.{joined}
 use Rattle.interp.specs.Turns.{Did, says, dropped}
 use Rattle.engine.specs.Prints.{few, line_text, values_text, line_printed, values_printed}
 use Rattle.engine.specs.Setting.{field_set}
-
--- the next operation of the code
-unfoldable pub fetched : Parts → Registers → Op
-fetched p r = op_in (op_of (slice_index p.code r.pc))
 
 -- what an operation does
 abbrev pub performed : Op → Parts → Registers → Did

@@ -8,7 +8,7 @@ use Rattle.store.specs.Values.{decoded}
 use Rattle.regions.specs.Parts.{Parts}
 use Rattle.rows.specs.declared.Printed.{Printed}
 use Rattle.rows.specs.Rows.{topmost, printed_line, went}
-use Rattle.interp.specs.declared.Turn.TheVariants.{On}
+use Rattle.interp.specs.Outcomes.{On}
 use Rattle.interp.specs.declared.registers.Print.{Print}
 use Rattle.interp.specs.declared.registers.Registers.{Registers}
 use Rattle.interp.specs.Turns.{Did, says, placed, after, releasing}

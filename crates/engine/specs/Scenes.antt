@@ -5,8 +5,7 @@ use Rattle.semantics.specs.Engine
 use Rattle.semantics.specs.Engine.{on, asks, stops, tired, asked, halted}
 use Rattle.regions.specs.Parts.{Parts, parts, joined, with_registers, with_lines}
 use Rattle.lines.specs.Scanning.{waiting, taken_lines, after_taken, input_of}
-use Rattle.interp.specs.declared.Turn.{Turn}
-use Rattle.interp.specs.declared.Turn.TheVariants.{On, Ask, Done, Refuse}
+use Rattle.interp.specs.Outcomes.{Turn, On, Ask, Done, Refuse}
 use Rattle.interp.specs.declared.registers.Registers.{Registers}
 use Rattle.interp.specs.Between.{with_input}
 use Rattle.interp.specs.Registers.{registers_in, row_of, saved_row}

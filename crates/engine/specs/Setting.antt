@@ -6,7 +6,7 @@ use Rattle.language.specs.Meaning.{field_number}
 use Rattle.regions.specs.Parts.{Parts}
 use Rattle.lines.specs.declared.line.Line.{Line}
 use Rattle.lines.specs.Building.{built, after_set, after_line, line_of}
-use Rattle.interp.specs.declared.Turn.TheVariants.{Refuse}
+use Rattle.interp.specs.Outcomes.{Refuse}
 use Rattle.interp.specs.declared.registers.Registers.{Registers}
 use Rattle.interp.specs.Turns.{Did, says, top_of, under_of, worth_in, dropped}
 use Rattle.interp.specs.Texts.{text_in}

@@ -1,17 +1,17 @@
 -- What one step of the code owes. Assumes nothing: these are definitions; the law is proved.
-use Rattle.std.specs.Prelude.{◌≡◌, ℕ, ◌≤◌, true, List, ◌++◌, length, take, drop, nat_lt}
+use Rattle.std.specs.Prelude.{◌≡◌, ℕ, ◌≤◌, true, List, ◌++◌, length, take, drop, nat_lt, Result, Ok, Err}
 use Rattle.language.specs.Text.{pick}
 use Rattle.language.specs.Run
 use Rattle.language.specs.Run.{bytes, no_more, next, Act, more, write, done, refused, all_small}
 use Rattle.semantics.specs.Engine.{goes_by}
 use Rattle.regions.specs.Parts.{parts}
-use Rattle.interp.specs.declared.Turn.{Turn}
-use Rattle.interp.specs.declared.Turn.TheVariants.{On, Ask as Asks, Done as Ends, Refuse as Refuses}
+use Rattle.interp.specs.declared.Refusal.{Refusal}
+use Rattle.interp.specs.Outcomes.{Turn, On, Ask as Asks, Done as Ends, Refuse as Refuses, refusal_number}
 use Rattle.interp.specs.declared.registers.Registers.{Registers}
 use Rattle.engine.specs.declared.Event.{Event}
 use Rattle.engine.specs.declared.Event.TheVariants.{Piece, NoMore, Next}
-use Rattle.engine.specs.declared.Answer.{Answer}
-use Rattle.engine.specs.declared.Answer.TheVariants.{Ask, Write, Done, Refuse}
+use Rattle.engine.specs.declared.Answer as Code
+use Rattle.engine.specs.declared.Answer.TheVariants as Kind
 use Rattle.engine.specs.Scenes.{Scene, machine_parts}
 
 -- an event of the code is one of the specification's
@@ -30,6 +30,20 @@ pub record PutBehind (out : List ℕ) (used : ℕ) (out₁ : List ℕ) (used₁ 
   pub room : used₁ ≤ 4096
   pub behind : drop used₁ out₁ ≡ drop used₁ out
   pub size : length out₁ ≡ length out
+
+-- a step's answer, with the number of a refusal
+pub data Answer : Type 0 where
+  Ask : Answer  -- a piece is wanted
+  Write : ℕ → Answer  -- so many bytes of the row are to be written
+  Done : ℕ → Answer  -- the run is over, with this number
+  Refuse : ℕ → Answer  -- the run is refused, with this number
+
+-- an answer of the code is one of these
+abbrev pub said : Result Code.Answer Refusal → Answer
+said (Ok Kind.Ask) = Ask
+said (Ok (Kind.Write n)) = Write n
+said (Ok (Kind.Done k)) = Done k
+said (Err e) = Refuse (refusal_number e)
 
 -- how an act is answered, and what then stands in what was lent for a row
 abbrev pub Answers : Act → Answer → (out out₁ : List ℕ) → Type 0

@@ -19,7 +19,7 @@ pub enum Event<'a> {
     Next,
 }
 
-// What comes of a step.
+// What comes of a step, unless the run is refused.
 #[derive(Clone, Copy)]
 pub enum Answer {
     // a piece is wanted
@@ -28,8 +28,6 @@ pub enum Answer {
     Write(usize),
     // the run is over, with this number
     Done(u64),
-    // the run is refused, with this number
-    Refuse(u64),
 }
 
 // Every step keeps the memory's length, and its numbers within 64 bits.

@@ -1,7 +1,8 @@
 // Prints. What has no room in this step's row goes into the next ones; until then the values stay on the stack.
-ghost use Rattle.std.specs.Prelude.{◌≡◌, ◌≤◌, length};
+ghost use Rattle.std.specs.Prelude.{◌≡◌, ◌≤◌, length, Ok};
 ghost use Rattle.regions.specs.Parts.{parts};
 ghost use Rattle.rows.specs.Rows.{over_row};
+ghost use Rattle.interp.specs.Outcomes.{came};
 ghost use Rattle.interp.specs.Turns.{Did};
 ghost use Rattle.engine.specs.Prints.{few, advanced, released, print_parts, print_regs, printed_so, line_text, values_text, line_printed, values_printed, pending_left, resumed};
 ghost use Rattle.engine.specs.Dispatch.{lent_after};
@@ -9,13 +10,13 @@ ghost use Rattle.engine.specs.Dispatch.{lent_after};
 use interp::Turn;
 use interp::registers::{Print, Registers};
 use interp::stack::advance;
+use regions::Memory;
 use regions::cells::{CELLS, stacked};
 use regions::texts::release_value;
 use rows::{Printed, print_line, print_values};
 
 // Lets n values go, from the top of a stack of this depth down.
-fn release_values(mem: &mut [u64], depth: usize, n: usize)
-    requires { length mem.old ≡ 262144 }
+fn release_values(mem: &mut Memory, depth: usize, n: usize)
     ensures { parts mem.new ≡ released (parts mem.old) depth n }
 {
     for i in 0..n {
@@ -25,8 +26,7 @@ fn release_values(mem: &mut [u64], depth: usize, n: usize)
 }
 
 // A print of n values has come so far: when it is finished its values go, otherwise the rest waits for the next row.
-fn end_print(mem: &mut [u64], regs: &mut Registers, n: usize, printed: Printed)
-    requires { length mem.old ≡ 262144 }
+fn end_print(mem: &mut Memory, regs: &mut Registers, n: usize, printed: Printed)
     ensures memory { parts mem.new ≡ print_parts (parts mem.old) regs.old n printed }
     ensures regs { regs.new ≡ print_regs regs.old n printed }
 {
@@ -44,9 +44,8 @@ fn end_print(mem: &mut [u64], regs: &mut Registers, n: usize, printed: Printed)
 }
 
 // A print of n values began and has come so far: the code goes on behind it.
-fn begin_print(mem: &mut [u64], regs: &mut Registers, n: usize, printed: Printed) -> Turn
-    requires { length mem.old ≡ 262144 }
-    ensures { ◌≡◌ {A = Did} (record { mem = parts mem.exit.now; regs = regs.new; turn = result }) (printed_so (parts mem.entry.now) (advanced regs.old) n printed) }
+fn begin_print(mem: &mut Memory, regs: &mut Registers, n: usize, printed: Printed) -> Turn
+    ensures { ◌≡◌ {A = Did} (record { mem = parts mem.exit.now; regs = regs.new; turn = came (Ok result) }) (printed_so (parts mem.entry.now) (advanced regs.old) n printed) }
 {
     advance(regs);
     end_print(mem, regs, n, printed);
@@ -54,9 +53,9 @@ fn begin_print(mem: &mut [u64], regs: &mut Registers, n: usize, printed: Printed
 }
 
 // A print of the line begins.
-pub fn begin_line(mem: &mut [u64], regs: &mut Registers, out: &mut [u8]) -> Turn
-    requires { (length mem.old ≡ 262144) × (4096 ≤ length out.old) }
-    ensures did { ◌≡◌ {A = Did} (record { mem = parts mem.exit.now; regs = regs.new; turn = result }) (line_printed (parts mem.entry.now) regs.old) }
+pub fn begin_line(mem: &mut Memory, regs: &mut Registers, out: &mut [u8]) -> Turn
+    requires { 4096 ≤ length out.old }
+    ensures did { ◌≡◌ {A = Did} (record { mem = parts mem.exit.now; regs = regs.new; turn = came (Ok result) }) (line_printed (parts mem.entry.now) regs.old) }
     ensures row { out.new ≡ over_row out.old regs.old.used (line_text (parts mem.old) regs.old) }
 {
     let printed = print_line(mem, regs.line.place, 0, out, regs.used);
@@ -64,9 +63,9 @@ pub fn begin_line(mem: &mut [u64], regs: &mut Registers, out: &mut [u8]) -> Turn
 }
 
 // A print of the n topmost values begins, or of as many as fit on the stack.
-pub fn begin_values(mem: &mut [u64], regs: &mut Registers, n: usize, out: &mut [u8]) -> Turn
-    requires { (length mem.old ≡ 262144) × (4096 ≤ length out.old) }
-    ensures did { ◌≡◌ {A = Did} (record { mem = parts mem.exit.now; regs = regs.new; turn = result }) (values_printed (parts mem.entry.now) regs.old (few n)) }
+pub fn begin_values(mem: &mut Memory, regs: &mut Registers, n: usize, out: &mut [u8]) -> Turn
+    requires { 4096 ≤ length out.old }
+    ensures did { ◌≡◌ {A = Did} (record { mem = parts mem.exit.now; regs = regs.new; turn = came (Ok result) }) (values_printed (parts mem.entry.now) regs.old (few n)) }
     ensures row { out.new ≡ over_row out.old regs.old.used (values_text (parts mem.old) regs.old (few n)) }
 {
     let n = n.min(CELLS);
@@ -75,8 +74,8 @@ pub fn begin_values(mem: &mut [u64], regs: &mut Registers, n: usize, out: &mut [
 }
 
 // A print that is not finished goes on, if there is one.
-pub fn resume(mem: &mut [u64], regs: &mut Registers, out: &mut [u8])
-    requires { (length mem.old ≡ 262144) × (4096 ≤ length out.old) }
+pub fn resume(mem: &mut Memory, regs: &mut Registers, out: &mut [u8])
+    requires { 4096 ≤ length out.old }
     ensures memory { parts mem.new ≡ (resumed (parts mem.old) regs.old).mem }
     ensures regs { regs.new ≡ (resumed (parts mem.old) regs.old).regs }
     ensures row { out.new ≡ lent_after out.old regs.old.used (pending_left (parts mem.old) regs.old) }

@@ -1,9 +1,10 @@
 // The setting of fields: the value stays on the stack, and the field's number goes. Where it is refused, nothing is changed.
-ghost use Rattle.std.specs.Prelude.{◌≡◌, ◌+◌, ◌^◌, ◌<◌, [], length, take, drop};
+ghost use Rattle.std.specs.Prelude.{◌≡◌, ◌+◌, ◌^◌, ◌<◌, [], length, take, drop, Ok};
 ghost use Rattle.language.specs.Text.{fields_from};
 ghost use Rattle.store.specs.Words.{put_bytes};
 ghost use Rattle.store.specs.Space.{text_of};
 ghost use Rattle.regions.specs.Parts.{parts, with_lines};
+ghost use Rattle.interp.specs.Outcomes.{came};
 ghost use Rattle.interp.specs.Turns.{Did};
 ghost use Rattle.interp.specs.Texts.{text_in};
 ghost use Rattle.engine.specs.Setting.{relined, line_set, nth_set, field_set};
@@ -12,10 +13,11 @@ use interp::registers::Registers;
 use interp::stack::{drop_top, top, under};
 use interp::texts::text_len;
 use interp::worth::{no_bytes, number_in};
-use interp::{LENGTH, NO_NUMBER, NO_ROOM, Turn};
+use interp::{Refusal, Turn};
 use lines::building::{build, free_buffer};
 use lines::cutting::recut;
 use lines::line::{Line, nth_field};
+use regions::Memory;
 use regions::fields::{FIELDS, Place};
 use regions::lines::put_text;
 use regions::texts::text_view;
@@ -36,13 +38,9 @@ const CHUNK: usize = 64;
 fn count_fields<T: Bytes>(t: &T) -> usize
     ensures { result ≡ length (fields_from [] (T.Bytes.bytes t.now)) }
 {
-    let end = t.len();
     let mut n = 0;
     let mut from = 0;
-    while from < end {
-        let Some(field) = next_field(t, from) else {
-            return n;
-        };
+    while let Some(field) = next_field(t, from) {
         n += 1;
         from = field.start + field.len;
     }
@@ -50,8 +48,7 @@ fn count_fields<T: Bytes>(t: &T) -> usize
 }
 
 // How many fields the text of a value has.
-fn fields_in(mem: &[u64], v: Value) -> usize
-    requires { length mem.now ≡ 262144 }
+fn fields_in(mem: &Memory, v: Value) -> usize
     ensures { result ≡ length (fields_from [] (text_in (parts mem.now) v)) }
 {
     match v {
@@ -63,8 +60,7 @@ fn fields_in(mem: &[u64], v: Value) -> usize
 }
 
 // The next few bytes of a text, from byte `at` of it on, go into the region of lines, from byte `to` on.
-fn lay_chunk(mem: &mut [u64], h: Handle, at: usize, to: usize)
-    requires { length mem.old ≡ 262144 }
+fn lay_chunk(mem: &mut Memory, h: Handle, at: usize, to: usize)
     ensures { parts mem.new ≡ with_lines (parts mem.old) (put_bytes (parts mem.old).lines to (take 64 (drop at (text_of 77822 (parts mem.old).texts h.index)))) }
 {
     let mut row = [0u8; CHUNK];
@@ -73,21 +69,19 @@ fn lay_chunk(mem: &mut [u64], h: Handle, at: usize, to: usize)
 }
 
 // The bytes of a text go into the region of lines, from byte `to` on.
-fn lay_text(mem: &mut [u64], h: Handle, to: usize)
-    requires { (length mem.old ≡ 262144) × (to < 2 ^ 63) }
+fn lay_text(mem: &mut Memory, h: Handle, to: usize)
+    requires { to < 2 ^ 63 }
     ensures { parts mem.new ≡ with_lines (parts mem.old) (put_bytes (parts mem.old).lines to (text_of 77822 (parts mem.old).texts h.index)) }
 {
     let n = text_view(mem, h).len();
-    let mut at = 0;
-    while at < n {
+    for at in (0..n).step_by(CHUNK) {
         lay_chunk(mem, h, at, to + at);
-        at += CHUNK.min(n - at);
     }
 }
 
 // The text of a value goes into the region of lines, from byte `to` on.
-fn lay_value(mem: &mut [u64], v: Value, to: usize)
-    requires { (length mem.old ≡ 262144) × (to < 2 ^ 63) }
+fn lay_value(mem: &mut Memory, v: Value, to: usize)
+    requires { to < 2 ^ 63 }
     ensures { parts mem.new ≡ with_lines (parts mem.old) (put_bytes (parts mem.old).lines to (text_in (parts mem.old) v)) }
 {
     match v {
@@ -99,25 +93,23 @@ fn lay_value(mem: &mut [u64], v: Value, to: usize)
 }
 
 // A line that was made anew is the current one; the field's number goes.
-fn take_line(mem: &mut [u64], regs: &mut Registers, line: Line) -> Turn
-    requires { length mem.old ≡ 262144 }
-    ensures { ◌≡◌ {A = Did} (record { mem = parts mem.exit.now; regs = regs.new; turn = result }) (relined (parts mem.entry.now) regs.old line) }
+fn take_line(mem: &mut Memory, regs: &mut Registers, line: Line) -> Turn
+    ensures { ◌≡◌ {A = Did} (record { mem = parts mem.exit.now; regs = regs.new; turn = came (Ok result) }) (relined (parts mem.entry.now) regs.old line) }
 {
     regs.line = line;
     drop_top(mem, regs)
 }
 
 // `$0` becomes the text of a value. What may be refused is looked for before anything is changed.
-fn set_line(mem: &mut [u64], regs: &mut Registers, v: Value) -> Turn
-    requires { length mem.old ≡ 262144 }
-    ensures { ◌≡◌ {A = Did} (record { mem = parts mem.exit.now; regs = regs.new; turn = result }) (line_set (parts mem.entry.now) regs.old (text_in (parts mem.entry.now) v)) }
+fn set_line(mem: &mut Memory, regs: &mut Registers, v: Value) -> Result<Turn, Refusal>
+    ensures { ◌≡◌ {A = Did} (record { mem = parts mem.exit.now; regs = regs.new; turn = came result }) (line_set (parts mem.entry.now) regs.old (text_in (parts mem.entry.now) v)) }
 {
     let len = text_len(mem, v);
     if len > LONGEST {
-        return Turn::Refuse(LENGTH);
+        return Err(Refusal::TooLong);
     }
     if fields_in(mem, v) > FIELDS {
-        return Turn::Refuse(NO_ROOM);
+        return Err(Refusal::NoRoom);
     }
     let place = Place {
         start: free_buffer(regs.line),
@@ -125,34 +117,30 @@ fn set_line(mem: &mut [u64], regs: &mut Registers, v: Value) -> Turn
     };
     lay_value(mem, v, place.start);
     let fields = recut(mem, place);
-    take_line(mem, regs, Line { place, fields })
+    Ok(take_line(mem, regs, Line { place, fields }))
 }
 
 // Field k, which is not 0, becomes the text of a value.
-fn set_nth(mem: &mut [u64], regs: &mut Registers, k: usize, v: Value) -> Turn
-    requires { length mem.old ≡ 262144 }
-    ensures { ◌≡◌ {A = Did} (record { mem = parts mem.exit.now; regs = regs.new; turn = result }) (nth_set (parts mem.entry.now) regs.old k (text_in (parts mem.entry.now) v)) }
+fn set_nth(mem: &mut Memory, regs: &mut Registers, k: usize, v: Value) -> Result<Turn, Refusal>
+    ensures { ◌≡◌ {A = Did} (record { mem = parts mem.exit.now; regs = regs.new; turn = came result }) (nth_set (parts mem.entry.now) regs.old k (text_in (parts mem.entry.now) v)) }
 {
     let len = text_len(mem, v);
-    match build(mem, regs.line, k, len) {
-        Some(line) => {
-            let gap = nth_field(mem, line, k);
-            lay_value(mem, v, gap.start);
-            take_line(mem, regs, line)
-        }
-        None => Turn::Refuse(LENGTH),
-    }
+    let Some(line) = build(mem, regs.line, k, len) else {
+        return Err(Refusal::TooLong);
+    };
+    let gap = nth_field(mem, line, k);
+    lay_value(mem, v, gap.start);
+    Ok(take_line(mem, regs, line))
 }
 
 // The field whose number is on top becomes the value under it.
-pub fn set_field(mem: &mut [u64], regs: &mut Registers) -> Turn
-    requires { length mem.old ≡ 262144 }
-    ensures { ◌≡◌ {A = Did} (record { mem = parts mem.exit.now; regs = regs.new; turn = result }) (field_set (parts mem.entry.now) regs.old) }
+pub fn set_field(mem: &mut Memory, regs: &mut Registers) -> Result<Turn, Refusal>
+    ensures { ◌≡◌ {A = Did} (record { mem = parts mem.exit.now; regs = regs.new; turn = came result }) (field_set (parts mem.entry.now) regs.old) }
 {
     let number = top(mem, regs);
     let n = number_in(mem, number);
     let Some(k) = field_number(n) else {
-        return Turn::Refuse(NO_NUMBER);
+        return Err(Refusal::NoSuchNumber);
     };
     let v = under(mem, regs);
     if k == 0 {

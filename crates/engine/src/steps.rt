@@ -2,22 +2,24 @@
 ghost use Rattle.std.specs.Prelude.{◌≡◌, ◌≤◌, length};
 ghost use Rattle.semantics.specs.Engine.{loop, goes_by};
 ghost use Rattle.engine.specs.Scenes.{taken_in, halt_of, machine_parts};
-ghost use Rattle.engine.specs.Steps.{told_of, scene_in, PutBehind, answer_of, Answers};
+ghost use Rattle.interp.specs.Outcomes.{came};
+ghost use Rattle.engine.specs.Steps.{told_of, scene_in, PutBehind, said, answer_of, Answers};
 
 use crate::dispatch::turn;
 use crate::prints::resume;
 use crate::{Answer, Event};
-use interp::Turn;
 use interp::registers::{Registers, load_registers, save_registers};
+use interp::{Refusal, Turn};
 use lines::input::take_in;
+use regions::Memory;
 use rows::ROW;
 
 // How many turns a step makes at most.
 const TURNS: usize = 16_384;
 
 // What is told is taken in; these are the registers with which turns begin.
-fn begin(mem: &mut [u64], event: Event, out: &mut [u8]) -> Registers
-    requires { (length mem.old ≡ 262144) × (4096 ≤ length out.old) }
+fn begin(mem: &mut Memory, event: Event, out: &mut [u8]) -> Registers
+    requires { 4096 ≤ length out.old }
     ensures scene { scene_in mem.new result out.new ≡ taken_in mem.old (told_of event.entry) }
     ensures row { PutBehind out.old 0 out.new result.used }
 {
@@ -31,45 +33,50 @@ fn begin(mem: &mut [u64], event: Event, out: &mut [u8]) -> Registers
 }
 
 // Up to so many turns; fewer if the row is full, or one of them asks, ends or refuses, which is said.
-fn turns(mem: &mut [u64], regs: &mut Registers, out: &mut [u8], budget: usize) -> Turn
-    requires { (length mem.old ≡ 262144) × ((4096 ≤ length out.old) × (regs.old.used ≤ 4096)) }
-    ensures halt { halt_of result (scene_in mem.new regs.new out.new) ≡ loop machine_parts budget (scene_in mem.old regs.old out.old) }
+fn turns(
+    mem: &mut Memory,
+    regs: &mut Registers,
+    out: &mut [u8],
+    budget: usize,
+) -> Result<Turn, Refusal>
+    requires { (4096 ≤ length out.old) × (regs.old.used ≤ 4096) }
+    ensures halt { halt_of (came result) (scene_in mem.new regs.new out.new) ≡ loop machine_parts budget (scene_in mem.old regs.old out.old) }
     ensures row { PutBehind out.old regs.old.used out.new regs.new.used }
 {
     for _i in 0..budget {
         if regs.used >= ROW {
-            return Turn::On;
+            return Ok(Turn::On);
         }
         match turn(mem, regs, out) {
-            Turn::On => {}
-            Turn::Ask => return Turn::Ask,
-            Turn::Done(k) => return Turn::Done(k),
-            Turn::Refuse(k) => return Turn::Refuse(k),
+            Ok(Turn::On) => {}
+            Ok(Turn::Ask) => return Ok(Turn::Ask),
+            Ok(Turn::Done(k)) => return Ok(Turn::Done(k)),
+            Err(refusal) => return Err(refusal),
         }
     }
-    Turn::On
+    Ok(Turn::On)
 }
 
 // What is answered: what is in the row is written before anything else.
-fn answer(turn: Turn, used: usize) -> Answer
-    ensures { result ≡ answer_of turn used }
+fn answer(last: Result<Turn, Refusal>, used: usize) -> Result<Answer, Refusal>
+    ensures { said result ≡ answer_of (came last) used }
 {
     if used > 0 {
-        return Answer::Write(used);
+        return Ok(Answer::Write(used));
     }
-    match turn {
-        Turn::On => Answer::Write(0),
-        Turn::Ask => Answer::Ask,
-        Turn::Done(k) => Answer::Done(k),
-        Turn::Refuse(k) => Answer::Refuse(k),
+    match last {
+        Ok(Turn::On) => Ok(Answer::Write(0)),
+        Ok(Turn::Ask) => Ok(Answer::Ask),
+        Ok(Turn::Done(k)) => Ok(Answer::Done(k)),
+        Err(refusal) => Err(refusal),
     }
 }
 
 // One step. What is to be written stands at the front of `out`.
-pub fn work(mem: &mut [u64], event: Event, out: &mut [u8]) -> Answer
-    requires { (length mem.old ≡ 262144) × (4096 ≤ length out.old) }
+pub fn work(mem: &mut Memory, event: Event, out: &mut [u8]) -> Result<Answer, Refusal>
+    requires { 4096 ≤ length out.old }
     ensures memory { mem.new ≡ (goes_by machine_parts mem.old (told_of event.entry)).memory }
-    ensures act { Answers (goes_by machine_parts mem.old (told_of event.entry)).act result out.old out.new }
+    ensures act { Answers (goes_by machine_parts mem.old (told_of event.entry)).act (said result) out.old out.new }
 {
     let mut regs = begin(mem, event, out);
     let last = turns(mem, &mut regs, out, TURNS);

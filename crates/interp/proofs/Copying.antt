@@ -1,7 +1,8 @@
 -- Bytes of the region of lines, copied into a text piece by piece.
-use Rattle.std.proofs.Common.{◌≡◌, ℕ, ◌+◌, ◌-◌, ◌<◌, ◌≤◌, min, List, [], ◌∷◌, ◌++◌, length, take, drop, ℤ, Some, None, Option, sym, refl, ap, ◌∙◌, arith, length-drop, length-take, length-take-le, take-add}
+use Rattle.std.proofs.Common.{◌≡◌, ℕ, ◌+◌, ◌-◌, ◌<◌, ◌≤◌, min, List, [], ◌∷◌, ◌++◌, length, take, drop, ℤ, Some, None, Option, sym, refl, ap, ◌∙◌, arith, length-drop, length-take, length-take-le, take-add, inl, inr, take_all}
 use lib.Seq.{paste, take-append_seam}
 use Rattle.std.proofs.lemmas.List.Edits.{paste_all}
+use Rattle.std.proofs.lemmas.Bool.{cases_lt}
 use Rattle.language.specs.Text.{number_of}
 use Rattle.language.specs.Meaning.{field_number}
 use Rattle.store.specs.declared.texts.Handle.{Handle}
@@ -17,7 +18,7 @@ use Rattle.store.proofs.Packing.{length_unpacked}
 use Rattle.store.proofs.Putting.{puts_append}
 use Rattle.store.proofs.Moving.{window_part}
 use Rattle.regions.specs.Parts.{Parts, parts, with_texts}
-use Rattle.regions.specs.declared.fields.Place.{Place}
+use Rattle.store.specs.declared.place.Place.{Place}
 use Rattle.regions.proofs.Regions.{lines_length}
 use Rattle.interp.specs.declared.registers.Registers.{Registers}
 use Rattle.interp.specs.Turns.{top_of, worth_in}
@@ -102,3 +103,11 @@ pub field_placed : (p q : Parts) (r : Registers) (k : ℕ) (place : Place) (o : 
 field_placed p q r k place o e f g =
     ap (λ x. put_new x r o) f ∙ ap (put_new (with_texts p (made 20480 77822 p.texts (bytes_in p place)).space) r) g
     ∙ ap (λ x. field_put p r (made 20480 77822 p.texts (bytes_in p x))) e
+
+-- a chunk more, of which the last may be short
+pub taken_on : (at m n : ℕ) (w : List ℕ) → length w ≡ n → m ≡ min 64 (n - at) → take (at + m) w ≡ take (at + 64) w
+taken_on at m n w l e =
+    elim (cases_lt (n - at) 64) [
+      | inl h ↦ take_all (at + m) w (omega arith) ∙ sym (take_all (at + 64) w (omega arith))
+      | inr h ↦ let k : m ≡ 64 = omega arith in ap (λ x. take (at + x) w) k
+    ]

@@ -1,5 +1,5 @@
 -- What an operator has as its result, from what arithmetic and comparing answer.
-use Rattle.std.proofs.Common.{◌≡◌, ℕ, Bool, true, false, List, ℤ, pos, negsuc, Some, None, Ok, Err, Option, Result, sym, refl, ap, ◌∙◌}
+use Rattle.std.proofs.Common.{◌≡◌, ℕ, Bool, true, false, List, ℤ, pos, negsuc, Some, None, Ok, Err, Option, Result, sym, refl, ap, ◌∙◌, IsErrAnd}
 use Rattle.language.specs.Text
 use Rattle.language.specs.Text.{number_of, truth, within, opposite}
 use Rattle.language.specs.Meaning.{State, got, reckon, reckon_one, as_got}
@@ -14,11 +14,13 @@ use Rattle.store.specs.Numbers.{number}
 use Rattle.store.specs.declared.cells.Value.{Value}
 use Rattle.store.specs.declared.cells.Value.TheVariants.{Number}
 use Rattle.regions.specs.Parts.{Parts}
-use Rattle.interp.specs.declared.Turn.{Turn}
+use Rattle.interp.specs.declared.Turn as Code
+use Rattle.interp.specs.declared.Refusal.{Refusal}
+use Rattle.interp.specs.Outcomes.{Turn, Refuse, refusal_number, came}
 use Rattle.interp.specs.declared.registers.Registers.{Registers}
 use Rattle.interp.specs.Turns.{Did, says, top_of, under_of, worth_in, replaced, replaced_two, truth_of}
 use Rattle.interp.specs.Jumps.{nothing_done}
-use Rattle.interp.specs.Numbers.{troubled, settled, figured, figured_one, Compares}
+use Rattle.interp.specs.Numbers.{refusal_of, troubled, settled, figured, figured_one, Compares}
 
 settled_number : (f : Value → Did) (g : Turn → Did) (z : ℤ) (s : State) → settled f g (got (number z) s) ≡ f (Number z)
 settled_number f g (pos n) s = refl
@@ -27,6 +29,12 @@ settled_number f g (negsuc n) s = refl
 settled_trouble : (f : Value → Did) (g : Turn → Did) (t : Trouble) (s : State) → settled f g (divided (Err t) s) ≡ g (troubled t)
 settled_trouble f g ByZero s = refl
 settled_trouble f g TooLarge s = refl
+
+-- an error of arithmetic, as what is refused
+pub refused_so : (r : Result Code.Turn Refusal) (t : Trouble) → IsErrAnd r (λ e. e ≡ refusal_of t) → came r ≡ troubled t
+refused_so (Ok x) t k = absurd k
+refused_so (Err e) ByZero k = ap (λ x. Refuse (refusal_number x)) k
+refused_so (Err e) TooLarge k = ap (λ x. Refuse (refusal_number x)) k
 
 settled_truth : (f : Value → Did) (g : Turn → Did) (b : Bool) (s : State) → settled f g (got (truth b) s) ≡ f (truth_of b)
 unfolding truth_of

@@ -10,7 +10,7 @@ use Rattle.store.specs.Space.{allocated}
 use Rattle.store.specs.Values.{decoded}
 use Rattle.store.specs.Words.{bytes_of}
 use Rattle.regions.specs.Parts.{Parts, with_texts}
-use Rattle.interp.specs.declared.Turn.TheVariants.{Refuse}
+use Rattle.interp.specs.Outcomes.{Refuse}
 use Rattle.interp.specs.declared.registers.Registers.{Registers}
 use Rattle.interp.specs.Turns.{says, top_of, under_of, replaced_two}
 use Rattle.interp.specs.Texts.{text_in, putting, joined_in, joined_long, joined_as, joined}

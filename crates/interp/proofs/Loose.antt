@@ -18,7 +18,7 @@ use Rattle.values.specs.Compare.{operator, upwards, plain_number}
 use Rattle.values.proofs.Comparing.{number_looks, number_itself}
 use Rattle.values.proofs.Reading.{plainly}
 use Rattle.regions.specs.Parts.{Parts, with_texts}
-use Rattle.interp.specs.declared.Turn.TheVariants.{On}
+use Rattle.interp.specs.Outcomes.{On}
 use Rattle.interp.specs.declared.registers.Registers.{Registers}
 use Rattle.interp.specs.Turns.{says, placed, after, top_of, under_of, worth_in, holding, releasing, stacking, replaced_two}
 use Rattle.interp.specs.Slots.{slot_of, slotting, kept_in}

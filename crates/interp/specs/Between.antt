@@ -4,11 +4,8 @@ use Rattle.language.specs.Text.{pick}
 use Rattle.regions.specs.Parts.{Parts, with_fields}
 use Rattle.lines.specs.declared.line.Line.{Line}
 use Rattle.lines.specs.declared.input.Input.{Input}
-use Rattle.lines.specs.declared.input.Found.{Found}
-use Rattle.lines.specs.declared.input.Found.TheVariants.{Whole, Part}
 use Rattle.lines.specs.Scanning.{Scanned, scan_of, after_scan, found_of, last_words, after_last, last_of}
-use Rattle.interp.specs.declared.Turn.{Turn}
-use Rattle.interp.specs.declared.Turn.TheVariants.{On, Ask, Done, Refuse}
+use Rattle.interp.specs.Outcomes.{Turn, On, Ask, Done, Refuse}
 use Rattle.interp.specs.declared.registers.Stage.{Stage}
 use Rattle.interp.specs.declared.registers.Stage.TheVariants.{Begin, Lines, End}
 use Rattle.interp.specs.declared.registers.Registers.{Registers}
@@ -97,9 +94,9 @@ last_taken p r i = last_started (with_fields p (last_words p i)) r (after_last p
 
 -- the next line is looked for
 
-abbrev pub sought : Parts → Registers → Input → Found → Did
-sought p r i (Whole l) = started p r i l
-sought p r i Part = pick i.ended (last_taken p r i) (says (waited_turn i) p (waited_regs r i))
+abbrev pub sought : Parts → Registers → Input → Option Line → Did
+sought p r i (Some l) = started p r i l
+sought p r i None = pick i.ended (last_taken p r i) (says (waited_turn i) p (waited_regs r i))
 
 abbrev pub sought_by : Parts → Registers → Scanned → Did
 sought_by p r s = sought (with_fields p s.cuts.words) r (after_scan r.input s) (found_of r.input s)

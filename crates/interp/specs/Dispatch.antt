@@ -5,7 +5,7 @@ use Rattle.assembly.specs.Assembly.{op_of}
 use Rattle.values.specs.Numbers.{operation}
 use Rattle.values.specs.Compare.{operator}
 use Rattle.regions.specs.Parts.{Parts}
-use Rattle.interp.specs.declared.Turn.TheVariants.{On, Refuse}
+use Rattle.interp.specs.Outcomes.{On, Refuse}
 use Rattle.interp.specs.declared.ops.Op.{Op}
 use Rattle.interp.specs.declared.ops.Op.TheVariants.{Load, Save, LineCount, FieldCount, GetField, SetField, Not, Opposite, Calculate, Compare, Join, Unknown, Truth, Fail, Jump, JumpIf, JumpUnless, Drop, PrintLine, PrintValues, LeaveLine, Exit, End}
 use Rattle.interp.specs.declared.registers.Registers.{Registers}

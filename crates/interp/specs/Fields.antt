@@ -6,10 +6,10 @@ use Rattle.store.specs.declared.cells.Value.{Value}
 use Rattle.store.specs.Words.{window}
 use Rattle.store.specs.Values.{Made, made}
 use Rattle.regions.specs.Parts.{Parts, with_texts}
-use Rattle.regions.specs.declared.fields.Place.{Place}
+use Rattle.store.specs.declared.place.Place.{Place}
 use Rattle.lines.specs.declared.line.Line.{Line}
 use Rattle.lines.specs.Lines.{nth_place}
-use Rattle.interp.specs.declared.Turn.TheVariants.{Refuse}
+use Rattle.interp.specs.Outcomes.{Refuse}
 use Rattle.interp.specs.declared.registers.Registers.{Registers}
 use Rattle.interp.specs.Turns.{Did, says, top_of, worth_in, replaced}
 

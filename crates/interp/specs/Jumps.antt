@@ -3,8 +3,7 @@ use Rattle.std.specs.Prelude.{ℕ, ◌-◌, Bool, false, not, []}
 use Rattle.language.specs.Text.{pick, number_of, holds}
 use Rattle.language.specs.Meaning.{State, Went, went, nexted, stopped, given, wrong, unfinished, exit_with}
 use Rattle.regions.specs.Parts.{Parts}
-use Rattle.interp.specs.declared.Turn.{Turn}
-use Rattle.interp.specs.declared.Turn.TheVariants.{On, Done, Refuse}
+use Rattle.interp.specs.Outcomes.{Turn, On, Done, Refuse}
 use Rattle.interp.specs.declared.registers.Registers.{Registers}
 use Rattle.interp.specs.Turns.{Did, says, placed, after, top_of, worth_in, releasing, replaced, truth_of}
 

@@ -4,6 +4,7 @@ pub mod Fields
 pub mod Jumps
 pub mod Numbers
 pub mod Ops
+pub mod Outcomes
 pub mod Registers
 pub mod Slots
 pub mod Texts

@@ -10,11 +10,15 @@ use Rattle.values.specs.declared.numbers.Trouble.TheVariants.{ByZero, TooLarge}
 use Rattle.store.specs.declared.cells.Value.{Value}
 use Rattle.store.specs.declared.cells.Value.TheVariants.{Number}
 use Rattle.regions.specs.Parts.{Parts}
-use Rattle.interp.specs.declared.Turn.{Turn}
-use Rattle.interp.specs.declared.Turn.TheVariants.{Refuse}
+use Rattle.interp.specs.declared.Refusal.{Refusal}
+use Rattle.interp.specs.Outcomes.{Turn, Refuse}
 use Rattle.interp.specs.declared.registers.Registers.{Registers}
 use Rattle.interp.specs.Turns.{Did, says, top_of, under_of, worth_in, replaced, replaced_two}
 use Rattle.interp.specs.Jumps.{ended, nothing_done}
+
+abbrev pub refusal_of : Trouble → Refusal
+refusal_of ByZero = Refusal.ByZero
+refusal_of TooLarge = Refusal.OutOfBounds
 
 abbrev pub troubled : Trouble → Turn
 troubled ByZero = Refuse 4

@@ -6,7 +6,7 @@ use Rattle.store.specs.declared.cells.Value.{Value}
 use Rattle.store.specs.declared.cells.Value.TheVariants.{Unset, Number}
 use Rattle.store.specs.Values.{decoded, saved}
 use Rattle.regions.specs.Parts.{Parts, with_slots}
-use Rattle.interp.specs.declared.Turn.TheVariants.{On}
+use Rattle.interp.specs.Outcomes.{On}
 use Rattle.interp.specs.declared.registers.Registers.{Registers}
 use Rattle.interp.specs.Turns.{Did, says, placed, after, top_of, holding, releasing, pushed}
 

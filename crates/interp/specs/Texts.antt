@@ -7,7 +7,7 @@ use Rattle.store.specs.declared.cells.Value.TheVariants.{Text as InText, Short a
 use Rattle.store.specs.Short.{short_of}
 use Rattle.store.specs.Space.{allocated, written}
 use Rattle.regions.specs.Parts.{Parts, with_texts}
-use Rattle.interp.specs.declared.Turn.TheVariants.{Refuse}
+use Rattle.interp.specs.Outcomes.{Refuse}
 use Rattle.interp.specs.declared.registers.Registers.{Registers}
 use Rattle.interp.specs.Turns.{Did, says, top_of, under_of, worth_in, replaced_two}
 

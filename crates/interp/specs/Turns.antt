@@ -6,8 +6,7 @@ use Rattle.store.specs.declared.cells.Value.{Value}
 use Rattle.store.specs.declared.cells.Value.TheVariants.{Unset, Number}
 use Rattle.store.specs.Values.{decoded, saved, worth, kept, let_go}
 use Rattle.regions.specs.Parts.{Parts, with_stack, with_texts}
-use Rattle.interp.specs.declared.Turn.{Turn}
-use Rattle.interp.specs.declared.Turn.TheVariants.{On, Refuse}
+use Rattle.interp.specs.Outcomes.{Turn, On, Refuse}
 use Rattle.interp.specs.declared.registers.Registers.{Registers}
 
 -- where a turn leaves the regions and the registers, and what comes of it

@@ -1,29 +1,31 @@
 // What comes between two runs through the code: the next line, or the end.
 ghost use Rattle.std.specs.Prelude.{◌≡◌, length};
 ghost use Rattle.regions.specs.Parts.{parts};
+ghost use Rattle.interp.specs.Outcomes.{came};
 ghost use Rattle.interp.specs.Turns.{Did};
 ghost use Rattle.interp.specs.Between.{started_regs, started_turn, closing, waited_regs, waited_turn, last_taken, line_sought, line_next};
 
 use crate::registers::{Registers, Stage};
-use crate::{LENGTH, NO_ROOM, Turn};
+use crate::{Refusal, Turn};
 use lines::cutting::len_at;
-use lines::input::{Found, Input, last_line, scan};
+use lines::input::{Input, last_line, scan};
 use lines::line::Line;
+use regions::Memory;
 use regions::fields::{FIELDS, Place};
 
 // The longest line that the language has.
 const LONGEST: usize = 65_535;
 
 // A line was found: its rules are next, if it is not too long and its fields have room.
-fn start_line(regs: &mut Registers, input: Input, line: Line) -> Turn
+fn start_line(regs: &mut Registers, input: Input, line: Line) -> Result<Turn, Refusal>
     ensures regs { regs.new ≡ started_regs regs.old input line }
-    ensures turn { result ≡ started_turn line }
+    ensures turn { came result ≡ started_turn line }
 {
     if line.place.len > LONGEST {
-        return Turn::Refuse(LENGTH);
+        return Err(Refusal::TooLong);
     }
     if line.fields > FIELDS {
-        return Turn::Refuse(NO_ROOM);
+        return Err(Refusal::NoRoom);
     }
     regs.input = input;
     regs.line = line;
@@ -31,7 +33,7 @@ fn start_line(regs: &mut Registers, input: Input, line: Line) -> Turn
     regs.stage = Stage::Lines;
     regs.running = true;
     regs.pc = regs.at_line;
-    Turn::On
+    Ok(Turn::On)
 }
 
 // There are no more lines: the rules for the end are next.
@@ -45,61 +47,53 @@ fn start_end(regs: &mut Registers, input: Input)
 }
 
 // Part of a line has come: nothing is to be done before there is more, unless it is too long already.
-fn wait(regs: &mut Registers, input: Input) -> Turn
+fn wait(regs: &mut Registers, input: Input) -> Result<Turn, Refusal>
     ensures regs { regs.new ≡ waited_regs regs.old input }
-    ensures turn { result ≡ waited_turn input }
+    ensures turn { came result ≡ waited_turn input }
 {
     let waits = Place {
         start: input.from,
         len: input.to.saturating_sub(input.from),
     };
     if len_at(waits) > LONGEST {
-        return Turn::Refuse(LENGTH);
+        return Err(Refusal::TooLong);
     }
     regs.input = input;
-    Turn::Ask
+    Ok(Turn::Ask)
 }
 
 // The end was told: what waits is the last line, if there is something.
-fn take_last(mem: &mut [u64], regs: &mut Registers, input: Input) -> Turn
-    requires { length mem.old ≡ 262144 }
-    ensures { ◌≡◌ {A = Did} (record { mem = parts mem.exit.now; regs = regs.new; turn = result }) (last_taken (parts mem.entry.now) regs.old input) }
+fn take_last(mem: &mut Memory, regs: &mut Registers, input: Input) -> Result<Turn, Refusal>
+    ensures { ◌≡◌ {A = Did} (record { mem = parts mem.exit.now; regs = regs.new; turn = came result }) (last_taken (parts mem.entry.now) regs.old input) }
 {
     let mut rest = input;
     match last_line(mem, &mut rest) {
         Some(line) => start_line(regs, rest, line),
         None => {
             start_end(regs, rest);
-            Turn::On
+            Ok(Turn::On)
         }
     }
 }
 
 // Looks for the next line. Where that is refused, the registers are as they were, so that it would be found again.
-fn seek_line(mem: &mut [u64], regs: &mut Registers) -> Turn
-    requires { length mem.old ≡ 262144 }
-    ensures { ◌≡◌ {A = Did} (record { mem = parts mem.exit.now; regs = regs.new; turn = result }) (line_sought (parts mem.entry.now) regs.old) }
+fn seek_line(mem: &mut Memory, regs: &mut Registers) -> Result<Turn, Refusal>
+    ensures { ◌≡◌ {A = Did} (record { mem = parts mem.exit.now; regs = regs.new; turn = came result }) (line_sought (parts mem.entry.now) regs.old) }
 {
     let mut input = regs.input;
     match scan(mem, &mut input) {
-        Found::Whole(line) => start_line(regs, input, line),
-        Found::Part => {
-            if input.ended {
-                take_last(mem, regs, input)
-            } else {
-                wait(regs, input)
-            }
-        }
+        Some(line) => start_line(regs, input, line),
+        None if input.ended => take_last(mem, regs, input),
+        None => wait(regs, input),
     }
 }
 
 // The next line with its rules, or the rules for the end, or the end of the run.
-pub fn next_line(mem: &mut [u64], regs: &mut Registers) -> Turn
-    requires { length mem.old ≡ 262144 }
-    ensures { ◌≡◌ {A = Did} (record { mem = parts mem.exit.now; regs = regs.new; turn = result }) (line_next (parts mem.entry.now) regs.old) }
+pub fn next_line(mem: &mut Memory, regs: &mut Registers) -> Result<Turn, Refusal>
+    ensures { ◌≡◌ {A = Did} (record { mem = parts mem.exit.now; regs = regs.new; turn = came result }) (line_next (parts mem.entry.now) regs.old) }
 {
     match regs.stage {
         Stage::Begin | Stage::Lines => seek_line(mem, regs),
-        Stage::End => Turn::Done(0),
+        Stage::End => Ok(Turn::Done(0)),
     }
 }

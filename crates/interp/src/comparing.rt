@@ -1,9 +1,10 @@
 // Comparisons of what is on the stack.
-ghost use Rattle.std.specs.Prelude.{◌≡◌, [], length};
+ghost use Rattle.std.specs.Prelude.{◌≡◌, [], length, Ok};
 ghost use Rattle.language.specs.Text.{text};
 ghost use Rattle.store.specs.Numbers.{number};
 ghost use Rattle.values.specs.Compare.{operator};
 ghost use Rattle.regions.specs.Parts.{parts};
+ghost use Rattle.interp.specs.Outcomes.{came};
 ghost use Rattle.interp.specs.Turns.{Did, worth_in};
 ghost use Rattle.interp.specs.Numbers.{Compares, figured};
 
@@ -11,6 +12,7 @@ use crate::Turn;
 use crate::registers::Registers;
 use crate::stack::{cover_two, top, under};
 use crate::worth::{no_bytes, truth};
+use regions::Memory;
 use regions::texts::{release_value, text_view};
 use store::bytes::Bytes;
 use store::cells::Value;
@@ -67,8 +69,7 @@ fn compare_number_text<T: Bytes>(c: Comparison, n: i64, t: &T) -> bool
     compare(c, Operand::<T>::number(n), Operand::Text(t))
 }
 
-fn compare_text_to<T: Bytes>(mem: &[u64], c: Comparison, t: &T, v: Value) -> bool
-    requires { length mem.now ≡ 262144 }
+fn compare_text_to<T: Bytes>(mem: &Memory, c: Comparison, t: &T, v: Value) -> bool
     ensures { Compares c result (text (T.Bytes.bytes t.now)) (worth_in (parts mem.now) v) }
 {
     match v {
@@ -79,8 +80,7 @@ fn compare_text_to<T: Bytes>(mem: &[u64], c: Comparison, t: &T, v: Value) -> boo
     }
 }
 
-fn compare_number_to(mem: &[u64], c: Comparison, m: i64, v: Value) -> bool
-    requires { length mem.now ≡ 262144 }
+fn compare_number_to(mem: &Memory, c: Comparison, m: i64, v: Value) -> bool
     ensures { Compares c result (number m) (worth_in (parts mem.now) v) }
 {
     match v {
@@ -91,8 +91,7 @@ fn compare_number_to(mem: &[u64], c: Comparison, m: i64, v: Value) -> bool
     }
 }
 
-fn compare_values(mem: &[u64], c: Comparison, a: Value, b: Value) -> bool
-    requires { length mem.now ≡ 262144 }
+fn compare_values(mem: &Memory, c: Comparison, a: Value, b: Value) -> bool
     ensures { Compares c result (worth_in (parts mem.now) a) (worth_in (parts mem.now) b) }
 {
     match a {
@@ -104,9 +103,8 @@ fn compare_values(mem: &[u64], c: Comparison, a: Value, b: Value) -> bool
 }
 
 // 1 if the two on top compare so, otherwise 0.
-pub fn compare_two(mem: &mut [u64], regs: &mut Registers, c: Comparison) -> Turn
-    requires { length mem.old ≡ 262144 }
-    ensures { ◌≡◌ {A = Did} (record { mem = parts mem.exit.now; regs = regs.new; turn = result }) (figured (operator c) (parts mem.entry.now) regs.old) }
+pub fn compare_two(mem: &mut Memory, regs: &mut Registers, c: Comparison) -> Turn
+    ensures { ◌≡◌ {A = Did} (record { mem = parts mem.exit.now; regs = regs.new; turn = came (Ok result) }) (figured (operator c) (parts mem.entry.now) regs.old) }
 {
     let first = under(mem, regs);
     let second = top(mem, regs);

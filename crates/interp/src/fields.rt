@@ -4,6 +4,7 @@ ghost use Rattle.store.specs.Words.{window};
 ghost use Rattle.store.specs.Space.{written};
 ghost use Rattle.store.specs.Values.{made};
 ghost use Rattle.regions.specs.Parts.{parts, with_texts};
+ghost use Rattle.interp.specs.Outcomes.{came};
 ghost use Rattle.interp.specs.Turns.{Did};
 ghost use Rattle.interp.specs.Fields.{field_place, field_got};
 
@@ -11,9 +12,10 @@ use crate::registers::Registers;
 use crate::stack::{replace_top, top};
 use crate::texts::short_packed;
 use crate::worth::number_in;
-use crate::{NO_NUMBER, NO_ROOM, Turn};
+use crate::{Refusal, Turn};
 use lines::cutting::len_at;
 use lines::line::{Line, nth_field};
+use regions::Memory;
 use regions::fields::Place;
 use regions::lines::line_window;
 use regions::texts::{fill_text, new_handle};
@@ -21,17 +23,16 @@ use store::bytes::Bytes;
 use store::cells::Value;
 use store::copying::copy_out;
 use store::lent::Lent;
+use store::short::LONGEST;
 use store::texts::Handle;
 use values::fields::field_number;
 
-// How many bytes are copied at once, and how many a cell has room for.
+// How many bytes are copied at once.
 const CHUNK: usize = 64;
 
-const SHORTEST: usize = 8;
-
 // A few bytes of the region of lines go into a text, from byte `at` on.
-fn copy_chunk(mem: &mut [u64], h: Handle, at: usize, place: Place)
-    requires { (length mem.old ≡ 262144) × (place.len ≤ 64) }
+fn copy_chunk(mem: &mut Memory, h: Handle, at: usize, place: Place)
+    requires { place.len ≤ 64 }
     ensures { parts mem.new ≡ with_texts (parts mem.old) (written 77822 (parts mem.old).texts h.index at (window place.start place.len (parts mem.old).lines)) }
 {
     let mut row = [0u8; CHUNK];
@@ -40,42 +41,33 @@ fn copy_chunk(mem: &mut [u64], h: Handle, at: usize, place: Place)
 }
 
 // The bytes at a place of the region of lines go into a text.
-fn copy_line(mem: &mut [u64], h: Handle, place: Place)
-    requires { length mem.old ≡ 262144 }
+fn copy_line(mem: &mut Memory, h: Handle, place: Place)
     ensures { parts mem.new ≡ with_texts (parts mem.old) (written 77822 (parts mem.old).texts h.index 0 (window place.start place.len (parts mem.old).lines)) }
 {
     let n = len_at(place);
-    let mut at = 0;
-    while at < n {
+    for at in (0..n).step_by(CHUNK) {
         let len = CHUNK.min(n - at);
         let start = place.start + at;
         copy_chunk(mem, h, at, Place { start, len });
-        at += len;
     }
 }
 
 // A new value with the bytes at a place of the region of lines, or none, if there is no room.
-fn line_value(mem: &mut [u64], place: Place) -> Option<Value>
-    requires { length mem.old ≡ 262144 }
+fn line_value(mem: &mut Memory, place: Place) -> Option<Value>
     ensures memory { parts mem.new ≡ with_texts (parts mem.old) (made 20480 77822 (parts mem.old).texts (window place.start place.len (parts mem.old).lines)).space }
     ensures value { result ≡ (made 20480 77822 (parts mem.old).texts (window place.start place.len (parts mem.old).lines)).value }
 {
     let n = len_at(place);
-    if n <= SHORTEST {
+    if n <= LONGEST {
         return Some(Value::Short(short_packed(line_window(mem, place))));
     }
-    match new_handle(mem, n) {
-        Some(handle) => {
-            copy_line(mem, handle, place);
-            Some(Value::Text(handle))
-        }
-        None => None,
-    }
+    let handle = new_handle(mem, n)?;
+    copy_line(mem, handle, place);
+    Some(Value::Text(handle))
 }
 
 // Where field k of a line is; field 0 is the line.
-fn place_of(mem: &[u64], line: Line, k: usize) -> Place
-    requires { length mem.now ≡ 262144 }
+fn place_of(mem: &Memory, line: Line, k: usize) -> Place
     ensures { result ≡ field_place (parts mem.now).fields line k }
 {
     if k == 0 {
@@ -86,18 +78,17 @@ fn place_of(mem: &[u64], line: Line, k: usize) -> Place
 }
 
 // The field whose number is on top.
-pub fn get_field(mem: &mut [u64], regs: &mut Registers) -> Turn
-    requires { length mem.old ≡ 262144 }
-    ensures { ◌≡◌ {A = Did} (record { mem = parts mem.exit.now; regs = regs.new; turn = result }) (field_got (parts mem.entry.now) regs.old) }
+pub fn get_field(mem: &mut Memory, regs: &mut Registers) -> Result<Turn, Refusal>
+    ensures { ◌≡◌ {A = Did} (record { mem = parts mem.exit.now; regs = regs.new; turn = came result }) (field_got (parts mem.entry.now) regs.old) }
 {
     let v = top(mem, regs);
     let n = number_in(mem, v);
     let Some(k) = field_number(n) else {
-        return Turn::Refuse(NO_NUMBER);
+        return Err(Refusal::NoSuchNumber);
     };
     let place = place_of(mem, regs.line, k);
-    match line_value(mem, place) {
-        Some(field) => replace_top(mem, regs, field),
-        None => Turn::Refuse(NO_ROOM),
-    }
+    let Some(field) = line_value(mem, place) else {
+        return Err(Refusal::NoRoom);
+    };
+    Ok(replace_top(mem, regs, field))
 }

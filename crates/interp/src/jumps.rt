@@ -1,19 +1,20 @@
 // Conditions, jumps and ends.
-ghost use Rattle.std.specs.Prelude.{◌≡◌, length};
+ghost use Rattle.std.specs.Prelude.{◌≡◌, length, Ok};
 ghost use Rattle.regions.specs.Parts.{parts};
+ghost use Rattle.interp.specs.Outcomes.{came};
 ghost use Rattle.interp.specs.Turns.{Did, says};
 ghost use Rattle.interp.specs.Jumps.{judged, negated, jumped, taking, jumped_if, jumped_unless, between, exited};
 
 use crate::registers::Registers;
 use crate::stack::{drop_top, replace_top, top};
 use crate::worth::{holds_in, number_in, truth};
-use crate::{NO_NUMBER, Turn};
+use crate::{Refusal, Turn};
+use regions::Memory;
 use values::fields::exit_number;
 
 // 1 if the top holds, otherwise 0.
-pub fn judge(mem: &mut [u64], regs: &mut Registers) -> Turn
-    requires { length mem.old ≡ 262144 }
-    ensures { ◌≡◌ {A = Did} (record { mem = parts mem.exit.now; regs = regs.new; turn = result }) (judged (parts mem.entry.now) regs.old) }
+pub fn judge(mem: &mut Memory, regs: &mut Registers) -> Turn
+    ensures { ◌≡◌ {A = Did} (record { mem = parts mem.exit.now; regs = regs.new; turn = came (Ok result) }) (judged (parts mem.entry.now) regs.old) }
 {
     let v = top(mem, regs);
     let b = holds_in(mem, v);
@@ -21,9 +22,8 @@ pub fn judge(mem: &mut [u64], regs: &mut Registers) -> Turn
 }
 
 // 0 if the top holds, otherwise 1.
-pub fn negate(mem: &mut [u64], regs: &mut Registers) -> Turn
-    requires { length mem.old ≡ 262144 }
-    ensures { ◌≡◌ {A = Did} (record { mem = parts mem.exit.now; regs = regs.new; turn = result }) (negated (parts mem.entry.now) regs.old) }
+pub fn negate(mem: &mut Memory, regs: &mut Registers) -> Turn
+    ensures { ◌≡◌ {A = Did} (record { mem = parts mem.exit.now; regs = regs.new; turn = came (Ok result) }) (negated (parts mem.entry.now) regs.old) }
 {
     let v = top(mem, regs);
     let b = holds_in(mem, v);
@@ -39,9 +39,8 @@ pub fn jump(regs: &mut Registers, to: usize) -> Turn
 }
 
 // Takes the top; if it is to jump, goes there.
-fn take_and_jump(mem: &mut [u64], regs: &mut Registers, goes: bool, to: usize) -> Turn
-    requires { length mem.old ≡ 262144 }
-    ensures { ◌≡◌ {A = Did} (record { mem = parts mem.exit.now; regs = regs.new; turn = result }) (taking (parts mem.entry.now) regs.old goes to) }
+fn take_and_jump(mem: &mut Memory, regs: &mut Registers, goes: bool, to: usize) -> Turn
+    ensures { ◌≡◌ {A = Did} (record { mem = parts mem.exit.now; regs = regs.new; turn = came (Ok result) }) (taking (parts mem.entry.now) regs.old goes to) }
 {
     let turn = drop_top(mem, regs);
     if goes {
@@ -51,9 +50,8 @@ fn take_and_jump(mem: &mut [u64], regs: &mut Registers, goes: bool, to: usize) -
 }
 
 // Takes the top, and goes there if it holds.
-pub fn jump_if(mem: &mut [u64], regs: &mut Registers, to: usize) -> Turn
-    requires { length mem.old ≡ 262144 }
-    ensures { ◌≡◌ {A = Did} (record { mem = parts mem.exit.now; regs = regs.new; turn = result }) (jumped_if (parts mem.entry.now) regs.old to) }
+pub fn jump_if(mem: &mut Memory, regs: &mut Registers, to: usize) -> Turn
+    ensures { ◌≡◌ {A = Did} (record { mem = parts mem.exit.now; regs = regs.new; turn = came (Ok result) }) (jumped_if (parts mem.entry.now) regs.old to) }
 {
     let v = top(mem, regs);
     let b = holds_in(mem, v);
@@ -61,9 +59,8 @@ pub fn jump_if(mem: &mut [u64], regs: &mut Registers, to: usize) -> Turn
 }
 
 // Takes the top, and goes there unless it holds.
-pub fn jump_unless(mem: &mut [u64], regs: &mut Registers, to: usize) -> Turn
-    requires { length mem.old ≡ 262144 }
-    ensures { ◌≡◌ {A = Did} (record { mem = parts mem.exit.now; regs = regs.new; turn = result }) (jumped_unless (parts mem.entry.now) regs.old to) }
+pub fn jump_unless(mem: &mut Memory, regs: &mut Registers, to: usize) -> Turn
+    ensures { ◌≡◌ {A = Did} (record { mem = parts mem.exit.now; regs = regs.new; turn = came (Ok result) }) (jumped_unless (parts mem.entry.now) regs.old to) }
 {
     let v = top(mem, regs);
     let b = holds_in(mem, v);
@@ -81,13 +78,12 @@ pub fn leave(regs: &mut Registers) -> Turn
 }
 
 // The run is over with the number on top.
-pub fn exit(mem: &[u64], regs: &Registers) -> Turn
-    requires { length mem.now ≡ 262144 }
-    ensures { result ≡ exited (parts mem.now) regs.now }
+pub fn exit(mem: &Memory, regs: &Registers) -> Result<Turn, Refusal>
+    ensures { came result ≡ exited (parts mem.now) regs.now }
 {
     let v = top(mem, regs);
     match exit_number(number_in(mem, v)) {
-        Some(k) => Turn::Done(k),
-        None => Turn::Refuse(NO_NUMBER),
+        Some(k) => Ok(Turn::Done(k)),
+        None => Err(Refusal::NoSuchNumber),
     }
 }

@@ -14,8 +14,11 @@ pub mod stack;
 pub mod texts;
 pub mod worth;
 
-// What comes of a turn. One that ends or refuses leaves memory and registers so that the same would come again; only that there is no room may leave
-// texts moved together.
+ghost use Rattle.std.specs.Prelude.{◌≡◌};
+ghost use Rattle.interp.specs.Outcomes.{refusal_number};
+
+// What comes of a turn, unless it is refused. One that ends or is refused leaves memory and registers so that the same would come again; only that there
+// is no room may leave texts moved together.
 #[derive(Clone, Copy)]
 pub enum Turn {
     // another turn can follow
@@ -24,20 +27,39 @@ pub enum Turn {
     Ask,
     // the run is over, with this number
     Done(u64),
-    // the run is refused, with this number
-    Refuse(u64),
 }
 
-// Numbers of what is refused: an operation that this machine does not have, a number out of bounds, a division by 0, a text or a line that is too
-// long, no room, a number that no field or exit has.
-pub const UNKNOWN: u64 = 2;
+// Why a run is refused.
+#[derive(Clone, Copy)]
+pub enum Refusal {
+    // an operation that this machine does not have
+    Unknown,
+    // a number out of bounds
+    OutOfBounds,
+    // a division by 0
+    ByZero,
+    // a text or a line that is too long
+    TooLong,
+    NoRoom,
+    // a number that no field or exit has
+    NoSuchNumber,
+    // what the code states
+    Stated(u64),
+}
 
-pub const BOUNDS: u64 = 3;
-
-pub const BY_ZERO: u64 = 4;
-
-pub const LENGTH: u64 = 7;
-
-pub const NO_ROOM: u64 = 8;
-
-pub const NO_NUMBER: u64 = 9;
+impl Refusal {
+    // The number that is told.
+    pub fn number(self) -> u64
+        ensures { result ≡ refusal_number self }
+    {
+        match self {
+            Refusal::Unknown => 2,
+            Refusal::OutOfBounds => 3,
+            Refusal::ByZero => 4,
+            Refusal::TooLong => 7,
+            Refusal::NoRoom => 8,
+            Refusal::NoSuchNumber => 9,
+            Refusal::Stated(k) => k,
+        }
+    }
+}

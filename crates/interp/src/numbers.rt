@@ -3,65 +3,67 @@ ghost use Rattle.std.specs.Prelude.{◌≡◌, length};
 ghost use Rattle.values.specs.Numbers.{operation};
 ghost use Rattle.regions.specs.Parts.{parts};
 ghost use Rattle.store.specs.declared.cells.Value.TheVariants.{Number};
+ghost use Rattle.interp.specs.Outcomes.{came};
 ghost use Rattle.interp.specs.Turns.{Did, under_of, top_of};
-ghost use Rattle.interp.specs.Numbers.{troubled, figured, figured_one};
+ghost use Rattle.interp.specs.Numbers.{refusal_of, figured, figured_one};
 
 use crate::registers::Registers;
 use crate::stack::{cover_two, replace_top, top, under};
 use crate::worth::number_in;
-use crate::{BOUNDS, BY_ZERO, Turn};
+use crate::{Refusal, Turn};
+use regions::Memory;
 use regions::texts::release_value;
 use store::cells::Value;
 use values::numbers::{Arithmetic, Trouble, calculate, negate};
 
-// Why there is no number, as what is refused.
-fn refusal(trouble: Trouble) -> Turn
-    ensures { result ≡ troubled trouble }
-{
-    match trouble {
-        Trouble::ByZero => Turn::Refuse(BY_ZERO),
-        Trouble::TooLarge => Turn::Refuse(BOUNDS),
+impl From<Trouble> for Refusal {
+    ghost from_gives = { λ t r. r ≡ refusal_of t };
+
+    fn from(trouble: Trouble) -> Refusal {
+        match trouble {
+            Trouble::ByZero => Refusal::ByZero,
+            Trouble::TooLarge => Refusal::OutOfBounds,
+        }
     }
 }
 
 // A number from the two on top, which are numbers.
-fn reckon_numbers(mem: &mut [u64], regs: &mut Registers, c: Arithmetic, a: i64, b: i64) -> Turn
-    requires { (length mem.old ≡ 262144) × ((Number a ≡ under_of (parts mem.old) regs.old) × (Number b ≡ top_of (parts mem.old) regs.old)) }
-    ensures { ◌≡◌ {A = Did} (record { mem = parts mem.exit.now; regs = regs.new; turn = result }) (figured (operation c) (parts mem.entry.now) regs.old) }
+fn reckon_numbers(
+    mem: &mut Memory,
+    regs: &mut Registers,
+    c: Arithmetic,
+    a: i64,
+    b: i64,
+) -> Result<Turn, Refusal>
+    requires { (Number a ≡ under_of (parts mem.old) regs.old) × (Number b ≡ top_of (parts mem.old) regs.old) }
+    ensures { ◌≡◌ {A = Did} (record { mem = parts mem.exit.now; regs = regs.new; turn = came result }) (figured (operation c) (parts mem.entry.now) regs.old) }
 {
-    match calculate(c, a, b) {
-        Ok(n) => cover_two(mem, regs, Value::Number(n)),
-        Err(trouble) => refusal(trouble),
-    }
+    let n = calculate(c, a, b)?;
+    Ok(cover_two(mem, regs, Value::Number(n)))
 }
 
 // A number from the two on top, which the caller has read.
 fn reckon_values(
-    mem: &mut [u64],
+    mem: &mut Memory,
     regs: &mut Registers,
     c: Arithmetic,
     first: Value,
     second: Value,
-) -> Turn
-    requires { (length mem.old ≡ 262144) × ((first ≡ under_of (parts mem.old) regs.old) × (second ≡ top_of (parts mem.old) regs.old)) }
-    ensures { ◌≡◌ {A = Did} (record { mem = parts mem.exit.now; regs = regs.new; turn = result }) (figured (operation c) (parts mem.entry.now) regs.old) }
+) -> Result<Turn, Refusal>
+    requires { (first ≡ under_of (parts mem.old) regs.old) × (second ≡ top_of (parts mem.old) regs.old) }
+    ensures { ◌≡◌ {A = Did} (record { mem = parts mem.exit.now; regs = regs.new; turn = came result }) (figured (operation c) (parts mem.entry.now) regs.old) }
 {
     let m = number_in(mem, first);
     let n = number_in(mem, second);
-    match calculate(c, m, n) {
-        Ok(got) => {
-            release_value(mem, second);
-            release_value(mem, first);
-            cover_two(mem, regs, Value::Number(got))
-        }
-        Err(trouble) => refusal(trouble),
-    }
+    let got = calculate(c, m, n)?;
+    release_value(mem, second);
+    release_value(mem, first);
+    Ok(cover_two(mem, regs, Value::Number(got)))
 }
 
 // A number from the two on top, which mostly are numbers.
-pub fn reckon(mem: &mut [u64], regs: &mut Registers, c: Arithmetic) -> Turn
-    requires { length mem.old ≡ 262144 }
-    ensures { ◌≡◌ {A = Did} (record { mem = parts mem.exit.now; regs = regs.new; turn = result }) (figured (operation c) (parts mem.entry.now) regs.old) }
+pub fn reckon(mem: &mut Memory, regs: &mut Registers, c: Arithmetic) -> Result<Turn, Refusal>
+    ensures { ◌≡◌ {A = Did} (record { mem = parts mem.exit.now; regs = regs.new; turn = came result }) (figured (operation c) (parts mem.entry.now) regs.old) }
 {
     let first = under(mem, regs);
     let second = top(mem, regs);
@@ -72,14 +74,13 @@ pub fn reckon(mem: &mut [u64], regs: &mut Registers, c: Arithmetic) -> Turn
 }
 
 // The opposite of the number on top.
-pub fn oppose(mem: &mut [u64], regs: &mut Registers) -> Turn
-    requires { length mem.old ≡ 262144 }
-    ensures { ◌≡◌ {A = Did} (record { mem = parts mem.exit.now; regs = regs.new; turn = result }) (figured_one 1 (parts mem.entry.now) regs.old) }
+pub fn oppose(mem: &mut Memory, regs: &mut Registers) -> Result<Turn, Refusal>
+    ensures { ◌≡◌ {A = Did} (record { mem = parts mem.exit.now; regs = regs.new; turn = came result }) (figured_one 1 (parts mem.entry.now) regs.old) }
 {
     let v = top(mem, regs);
     let a = number_in(mem, v);
     match negate(a) {
-        Some(n) => replace_top(mem, regs, Value::Number(n)),
-        None => Turn::Refuse(BOUNDS),
+        Some(n) => Ok(replace_top(mem, regs, Value::Number(n))),
+        None => Err(Refusal::OutOfBounds),
     }
 }

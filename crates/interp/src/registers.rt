@@ -1,11 +1,12 @@
 // The machine's registers, and how memory keeps them between steps.
-ghost use Rattle.std.specs.Prelude.{◌≡◌, ◌++◌, length};
+ghost use Rattle.std.specs.Prelude.{◌≡◌, ℕ, ◌^◌, ◌<◌, ◌++◌, length, slice_index};
 ghost use Rattle.regions.specs.Parts.{parts, with_registers};
 ghost use Rattle.interp.specs.Registers.{stage_of, line_in, input_in, print_in, registers_in, row_of, saved_row, RegistersComeBack};
 
 use lines::cutting::Cut;
 use lines::input::Input;
 use lines::line::Line;
+use regions::Memory;
 use regions::fields::Place;
 
 // Which rules are being worked on.
@@ -119,8 +120,7 @@ fn registers_in(words: &[u64]) -> Registers
 }
 
 // The registers, as memory has them when a step begins.
-pub fn load_registers(mem: &[u64]) -> Registers
-    requires { length mem.now ≡ 262144 }
+pub fn load_registers(mem: &Memory) -> Registers
     ensures { result ≡ registers_in (parts mem.now).registers }
 {
     registers_in(&mem[0..WORDS])
@@ -153,15 +153,16 @@ fn row_of(regs: Registers) -> [u64; ROW]
 
 fn save_row(words: &mut [u64], row: &[u64])
     requires { (length words.old ≡ 64) × (length row.now ≡ 18) }
-    ensures { words.new ≡ saved_row row.now words.old }
+    ensures saved { words.new ≡ saved_row row.now words.old }
+    ensures small { (i : ℕ) → slice_index words.new i < 2 ^ 64 }
 {
     words[0..ROW].copy_from_slice(row);
 }
 
 // Puts the registers where memory keeps them between steps.
-pub fn save_registers(mem: &mut [u64], regs: Registers)
-    requires { length mem.old ≡ 262144 }
-    ensures { parts mem.new ≡ with_registers (parts mem.old) (saved_row (row_of regs) (parts mem.old).registers) }
+pub fn save_registers(mem: &mut Memory, regs: Registers)
+    ensures saved { parts mem.new ≡ with_registers (parts mem.old) (saved_row (row_of regs) (parts mem.old).registers) }
+    ensures small { (i : ℕ) → slice_index mem.new i < 2 ^ 64 }
 {
     let row = row_of(regs);
     save_row(&mut mem[0..WORDS], &row);

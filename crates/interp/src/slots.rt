@@ -1,31 +1,30 @@
 // Variables, constants and counts.
-ghost use Rattle.std.specs.Prelude.{◌≡◌, length};
+ghost use Rattle.std.specs.Prelude.{◌≡◌, length, Ok};
 ghost use Rattle.regions.specs.Parts.{parts};
 ghost use Rattle.store.specs.declared.cells.Value.TheVariants.{Number};
-ghost use Rattle.interp.specs.declared.Turn.TheVariants.{On};
+ghost use Rattle.interp.specs.Outcomes.{On, came};
 ghost use Rattle.interp.specs.Turns.{Did, says, releasing, placed, after};
 ghost use Rattle.interp.specs.Slots.{slot_of, slotting, loaded, kept_in, line_counted, fields_counted};
 
-use crate::Turn;
 use crate::registers::Registers;
 use crate::stack::{advance, push, top};
+use crate::{Refusal, Turn};
+use regions::Memory;
 use regions::cells::{set_slot, slot};
 use regions::texts::{hold_value, release_value};
 use store::cells::Value;
 
 // The value of a slot comes onto the stack.
-pub fn load_slot(mem: &mut [u64], regs: &mut Registers, i: usize) -> Turn
-    requires { length mem.old ≡ 262144 }
-    ensures { ◌≡◌ {A = Did} (record { mem = parts mem.exit.now; regs = regs.new; turn = result }) (loaded (parts mem.entry.now) regs.old i) }
+pub fn load_slot(mem: &mut Memory, regs: &mut Registers, i: usize) -> Result<Turn, Refusal>
+    ensures { ◌≡◌ {A = Did} (record { mem = parts mem.exit.now; regs = regs.new; turn = came result }) (loaded (parts mem.entry.now) regs.old i) }
 {
     let v = slot(mem, i);
     push(mem, regs, v)
 }
 
 // A number goes into a slot; there is no text to hold.
-fn save_number(mem: &mut [u64], regs: &mut Registers, i: usize, n: i64) -> Turn
-    requires { length mem.old ≡ 262144 }
-    ensures { ◌≡◌ {A = Did} (record { mem = parts mem.exit.now; regs = regs.new; turn = result }) (says On (slotting (releasing (parts mem.entry.now) (slot_of (parts mem.entry.now) i)) i (Number n)) (placed regs.old (after regs.old.pc) regs.old.depth)) }
+fn save_number(mem: &mut Memory, regs: &mut Registers, i: usize, n: i64) -> Turn
+    ensures { ◌≡◌ {A = Did} (record { mem = parts mem.exit.now; regs = regs.new; turn = came (Ok result) }) (says On (slotting (releasing (parts mem.entry.now) (slot_of (parts mem.entry.now) i)) i (Number n)) (placed regs.old (after regs.old.pc) regs.old.depth)) }
 {
     let before = slot(mem, i);
     release_value(mem, before);
@@ -35,9 +34,8 @@ fn save_number(mem: &mut [u64], regs: &mut Registers, i: usize, n: i64) -> Turn
 }
 
 // The top goes into a slot too. The new value is held before the old one is let go, since they may be one text.
-pub fn save_slot(mem: &mut [u64], regs: &mut Registers, i: usize) -> Turn
-    requires { length mem.old ≡ 262144 }
-    ensures { ◌≡◌ {A = Did} (record { mem = parts mem.exit.now; regs = regs.new; turn = result }) (kept_in (parts mem.entry.now) regs.old i) }
+pub fn save_slot(mem: &mut Memory, regs: &mut Registers, i: usize) -> Turn
+    ensures { ◌≡◌ {A = Did} (record { mem = parts mem.exit.now; regs = regs.new; turn = came (Ok result) }) (kept_in (parts mem.entry.now) regs.old i) }
 {
     let v = top(mem, regs);
     if let Value::Number(n) = v {
@@ -52,18 +50,16 @@ pub fn save_slot(mem: &mut [u64], regs: &mut Registers, i: usize) -> Turn
 }
 
 // How many lines there were.
-pub fn count_lines(mem: &mut [u64], regs: &mut Registers) -> Turn
-    requires { length mem.old ≡ 262144 }
-    ensures { ◌≡◌ {A = Did} (record { mem = parts mem.exit.now; regs = regs.new; turn = result }) (line_counted (parts mem.entry.now) regs.old) }
+pub fn count_lines(mem: &mut Memory, regs: &mut Registers) -> Result<Turn, Refusal>
+    ensures { ◌≡◌ {A = Did} (record { mem = parts mem.exit.now; regs = regs.new; turn = came result }) (line_counted (parts mem.entry.now) regs.old) }
 {
     let v = Value::Number(regs.count.cast_signed());
     push(mem, regs, v)
 }
 
 // How many fields the line has.
-pub fn count_fields(mem: &mut [u64], regs: &mut Registers) -> Turn
-    requires { length mem.old ≡ 262144 }
-    ensures { ◌≡◌ {A = Did} (record { mem = parts mem.exit.now; regs = regs.new; turn = result }) (fields_counted (parts mem.entry.now) regs.old) }
+pub fn count_fields(mem: &mut Memory, regs: &mut Registers) -> Result<Turn, Refusal>
+    ensures { ◌≡◌ {A = Did} (record { mem = parts mem.exit.now; regs = regs.new; turn = came result }) (fields_counted (parts mem.entry.now) regs.old) }
 {
     let n = regs.line.fields as u64;
     push(mem, regs, Value::Number(n.cast_signed()))

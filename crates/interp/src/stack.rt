@@ -1,27 +1,26 @@
 // The stack of values. Each of its values holds its text, if it has one.
-ghost use Rattle.std.specs.Prelude.{◌≡◌, ◌+◌, ◌-◌, length};
+ghost use Rattle.std.specs.Prelude.{◌≡◌, ◌+◌, ◌-◌, length, Ok};
 ghost use Rattle.store.specs.declared.cells.Value.TheVariants.{Number};
 ghost use Rattle.regions.specs.Parts.{parts};
-ghost use Rattle.interp.specs.declared.Turn.TheVariants.{On};
+ghost use Rattle.interp.specs.Outcomes.{On, came};
 ghost use Rattle.interp.specs.Turns.{Did, says, stacking, placed, after, top_of, under_of, pushed, replaced, replaced_two, dropped};
 
 use crate::registers::Registers;
-use crate::{NO_ROOM, Turn};
+use crate::{Refusal, Turn};
+use regions::Memory;
 use regions::cells::{CELLS, set_stacked, stacked};
 use regions::texts::{hold_value, release_value};
 use store::cells::Value;
 
 // The value on top.
-pub fn top(mem: &[u64], regs: &Registers) -> Value
-    requires { length mem.now ≡ 262144 }
+pub fn top(mem: &Memory, regs: &Registers) -> Value
     ensures { result ≡ top_of (parts mem.now) regs.now }
 {
     stacked(mem, regs.depth.saturating_sub(1))
 }
 
 // The value under it.
-pub fn under(mem: &[u64], regs: &Registers) -> Value
-    requires { length mem.now ≡ 262144 }
+pub fn under(mem: &Memory, regs: &Registers) -> Value
     ensures { result ≡ under_of (parts mem.now) regs.now }
 {
     stacked(mem, regs.depth.saturating_sub(2))
@@ -35,42 +34,39 @@ pub fn advance(regs: &mut Registers)
 }
 
 // A number comes onto the stack; there is no text to hold.
-fn push_number(mem: &mut [u64], regs: &mut Registers, n: i64) -> Turn
-    requires { length mem.old ≡ 262144 }
-    ensures { ◌≡◌ {A = Did} (record { mem = parts mem.exit.now; regs = regs.new; turn = result }) (pushed (parts mem.entry.now) regs.old (Number n)) }
+fn push_number(mem: &mut Memory, regs: &mut Registers, n: i64) -> Result<Turn, Refusal>
+    ensures { ◌≡◌ {A = Did} (record { mem = parts mem.exit.now; regs = regs.new; turn = came result }) (pushed (parts mem.entry.now) regs.old (Number n)) }
 {
     if regs.depth >= CELLS {
-        return Turn::Refuse(NO_ROOM);
+        return Err(Refusal::NoRoom);
     }
     set_stacked(mem, regs.depth, Value::Number(n));
     regs.depth += 1;
     advance(regs);
-    Turn::On
+    Ok(Turn::On)
 }
 
 // A value comes onto the stack.
-pub fn push(mem: &mut [u64], regs: &mut Registers, v: Value) -> Turn
-    requires { length mem.old ≡ 262144 }
-    ensures { ◌≡◌ {A = Did} (record { mem = parts mem.exit.now; regs = regs.new; turn = result }) (pushed (parts mem.entry.now) regs.old v) }
+pub fn push(mem: &mut Memory, regs: &mut Registers, v: Value) -> Result<Turn, Refusal>
+    ensures { ◌≡◌ {A = Did} (record { mem = parts mem.exit.now; regs = regs.new; turn = came result }) (pushed (parts mem.entry.now) regs.old v) }
 {
     // most values are numbers
     if let Value::Number(n) = v {
         return push_number(mem, regs, n);
     }
     if regs.depth >= CELLS {
-        return Turn::Refuse(NO_ROOM);
+        return Err(Refusal::NoRoom);
     }
     hold_value(mem, v);
     set_stacked(mem, regs.depth, v);
     regs.depth += 1;
     advance(regs);
-    Turn::On
+    Ok(Turn::On)
 }
 
 // A new value, whose only holder is the stack, comes in place of the top.
-pub fn replace_top(mem: &mut [u64], regs: &mut Registers, v: Value) -> Turn
-    requires { length mem.old ≡ 262144 }
-    ensures { ◌≡◌ {A = Did} (record { mem = parts mem.exit.now; regs = regs.new; turn = result }) (replaced (parts mem.entry.now) regs.old v) }
+pub fn replace_top(mem: &mut Memory, regs: &mut Registers, v: Value) -> Turn
+    ensures { ◌≡◌ {A = Did} (record { mem = parts mem.exit.now; regs = regs.new; turn = came (Ok result) }) (replaced (parts mem.entry.now) regs.old v) }
 {
     let old = top(mem, regs);
     release_value(mem, old);
@@ -80,9 +76,8 @@ pub fn replace_top(mem: &mut [u64], regs: &mut Registers, v: Value) -> Turn
 }
 
 // A new value comes over the two on top, which hold no texts or were let go.
-pub fn cover_two(mem: &mut [u64], regs: &mut Registers, v: Value) -> Turn
-    requires { length mem.old ≡ 262144 }
-    ensures { ◌≡◌ {A = Did} (record { mem = parts mem.exit.now; regs = regs.new; turn = result }) (says On (stacking (parts mem.entry.now) (regs.old.depth - 2) v) (placed regs.old (after regs.old.pc) (regs.old.depth - 2 + 1))) }
+pub fn cover_two(mem: &mut Memory, regs: &mut Registers, v: Value) -> Turn
+    ensures { ◌≡◌ {A = Did} (record { mem = parts mem.exit.now; regs = regs.new; turn = came (Ok result) }) (says On (stacking (parts mem.entry.now) (regs.old.depth - 2) v) (placed regs.old (after regs.old.pc) (regs.old.depth - 2 + 1))) }
 {
     let at = regs.depth.saturating_sub(2);
     set_stacked(mem, at, v);
@@ -92,9 +87,8 @@ pub fn cover_two(mem: &mut [u64], regs: &mut Registers, v: Value) -> Turn
 }
 
 // A new value comes in place of the two on top.
-pub fn replace_two(mem: &mut [u64], regs: &mut Registers, v: Value) -> Turn
-    requires { length mem.old ≡ 262144 }
-    ensures { ◌≡◌ {A = Did} (record { mem = parts mem.exit.now; regs = regs.new; turn = result }) (replaced_two (parts mem.entry.now) regs.old v) }
+pub fn replace_two(mem: &mut Memory, regs: &mut Registers, v: Value) -> Turn
+    ensures { ◌≡◌ {A = Did} (record { mem = parts mem.exit.now; regs = regs.new; turn = came (Ok result) }) (replaced_two (parts mem.entry.now) regs.old v) }
 {
     let second = top(mem, regs);
     let first = under(mem, regs);
@@ -104,9 +98,8 @@ pub fn replace_two(mem: &mut [u64], regs: &mut Registers, v: Value) -> Turn
 }
 
 // The top is gone.
-pub fn drop_top(mem: &mut [u64], regs: &mut Registers) -> Turn
-    requires { length mem.old ≡ 262144 }
-    ensures { ◌≡◌ {A = Did} (record { mem = parts mem.exit.now; regs = regs.new; turn = result }) (dropped (parts mem.entry.now) regs.old) }
+pub fn drop_top(mem: &mut Memory, regs: &mut Registers) -> Turn
+    ensures { ◌≡◌ {A = Did} (record { mem = parts mem.exit.now; regs = regs.new; turn = came (Ok result) }) (dropped (parts mem.entry.now) regs.old) }
 {
     let old = top(mem, regs);
     release_value(mem, old);

@@ -1,32 +1,31 @@
 // Texts of values, and two joined to one.
 ghost use Rattle.std.specs.Prelude.{◌≡◌, ℕ, ◌+◌, ◌≤◌, ◌++◌, length};
 ghost use Rattle.store.specs.Words.{bytes_of, window};
-ghost use Rattle.store.specs.Short.{Read};
 ghost use Rattle.store.specs.Space.{written};
 ghost use Rattle.regions.specs.Parts.{parts, with_texts};
+ghost use Rattle.interp.specs.Outcomes.{came};
 ghost use Rattle.interp.specs.Turns.{Did};
 ghost use Rattle.interp.specs.Texts.{text_in, joined_long, joined};
 
 use crate::registers::Registers;
 use crate::stack::{cover_two, top, under};
 use crate::worth::no_bytes;
-use crate::{LENGTH, NO_ROOM, Turn};
+use crate::{Refusal, Turn};
+use regions::Memory;
 use regions::texts::{fill_text, join_text, new_handle, release_value, text_view};
 use store::bytes::Bytes;
 use store::cells::Value;
+use store::copying::short_of;
 use store::decimal::decimal_of;
 use store::packed::{Packed, word_at};
-use store::short::{Short, low_bytes};
+use store::short::{self, Short, low_bytes};
 use store::texts::Handle;
 
-// The longest text that the language has, and the longest that a cell has room for.
+// The longest text that the language has.
 const LONGEST: usize = 65_535;
 
-const SHORTEST: usize = 8;
-
 // How many bytes the text of a value has.
-pub fn text_len(mem: &[u64], v: Value) -> usize
-    requires { length mem.now ≡ 262144 }
+pub fn text_len(mem: &Memory, v: Value) -> usize
     ensures { result ≡ length (text_in (parts mem.now) v) }
 {
     match v {
@@ -34,34 +33,6 @@ pub fn text_len(mem: &[u64], v: Value) -> usize
         Value::Number(n) => decimal_of(n).len(),
         Value::Short(short) => short.len(),
         Value::Text(handle) => text_view(mem, handle).len(),
-    }
-}
-
-// Up to eight bytes as a word.
-fn first_word<T: Bytes>(t: &T) -> u64
-    requires { length (T.Bytes.bytes t.now) ≤ 8 }
-    ensures { Read (T.Bytes.bytes t.now) result }
-{
-    u64::from_le_bytes([
-        t.at(0),
-        t.at(1),
-        t.at(2),
-        t.at(3),
-        t.at(4),
-        t.at(5),
-        t.at(6),
-        t.at(7),
-    ])
-}
-
-// The short text of up to eight bytes.
-pub fn short_of<T: Bytes>(t: &T) -> Short
-    requires { length (T.Bytes.bytes t.now) ≤ 8 }
-    ensures { bytes_of result.len result.word ≡ T.Bytes.bytes t.now }
-{
-    Short {
-        word: first_word(t),
-        len: t.len(),
     }
 }
 
@@ -80,8 +51,8 @@ pub fn short_packed(t: Packed) -> Short
 }
 
 // The text of a value, where it has up to eight bytes.
-fn as_short(mem: &[u64], v: Value) -> Short
-    requires { (length mem.now ≡ 262144) × (length (text_in (parts mem.now) v) ≤ 8) }
+fn as_short(mem: &Memory, v: Value) -> Short
+    requires { length (text_in (parts mem.now) v) ≤ 8 }
     ensures { bytes_of result.len result.word ≡ text_in (parts mem.now) v }
 {
     match v {
@@ -107,8 +78,7 @@ fn join_shorts(a: Short, b: Short) -> Short
 }
 
 // The text of a value goes into a text, from byte `at` on.
-fn put_text(mem: &mut [u64], h: Handle, at: usize, v: Value)
-    requires { length mem.old ≡ 262144 }
+fn put_text(mem: &mut Memory, h: Handle, at: usize, v: Value)
     ensures { parts mem.new ≡ with_texts (parts mem.old) (written 77822 (parts mem.old).texts h.index at (text_in (parts mem.old) v)) }
 {
     match v {
@@ -120,41 +90,37 @@ fn put_text(mem: &mut [u64], h: Handle, at: usize, v: Value)
 }
 
 // A new text of so many bytes comes in place of the two on top, of which the first has m bytes.
-fn join_long(mem: &mut [u64], regs: &mut Registers, m: usize, size: usize) -> Turn
-    requires { length mem.old ≡ 262144 }
-    ensures { ◌≡◌ {A = Did} (record { mem = parts mem.exit.now; regs = regs.new; turn = result }) (joined_long (parts mem.entry.now) regs.old m size) }
+fn join_long(mem: &mut Memory, regs: &mut Registers, m: usize, size: usize) -> Result<Turn, Refusal>
+    ensures { ◌≡◌ {A = Did} (record { mem = parts mem.exit.now; regs = regs.new; turn = came result }) (joined_long (parts mem.entry.now) regs.old m size) }
 {
     let first = under(mem, regs);
     let second = top(mem, regs);
-    match new_handle(mem, size) {
-        Some(handle) => {
-            put_text(mem, handle, 0, first);
-            put_text(mem, handle, m, second);
-            release_value(mem, second);
-            release_value(mem, first);
-            cover_two(mem, regs, Value::Text(handle))
-        }
-        None => Turn::Refuse(NO_ROOM),
-    }
+    let Some(handle) = new_handle(mem, size) else {
+        return Err(Refusal::NoRoom);
+    };
+    put_text(mem, handle, 0, first);
+    put_text(mem, handle, m, second);
+    release_value(mem, second);
+    release_value(mem, first);
+    Ok(cover_two(mem, regs, Value::Text(handle)))
 }
 
 // The texts of the two on top become one.
-pub fn join(mem: &mut [u64], regs: &mut Registers) -> Turn
-    requires { length mem.old ≡ 262144 }
-    ensures { ◌≡◌ {A = Did} (record { mem = parts mem.exit.now; regs = regs.new; turn = result }) (joined (parts mem.entry.now) regs.old) }
+pub fn join(mem: &mut Memory, regs: &mut Registers) -> Result<Turn, Refusal>
+    ensures { ◌≡◌ {A = Did} (record { mem = parts mem.exit.now; regs = regs.new; turn = came result }) (joined (parts mem.entry.now) regs.old) }
 {
     let first = under(mem, regs);
     let second = top(mem, regs);
     let m = text_len(mem, first);
     let size = m.saturating_add(text_len(mem, second));
     if size > LONGEST {
-        return Turn::Refuse(LENGTH);
+        return Err(Refusal::TooLong);
     }
-    if size > SHORTEST {
+    if size > short::LONGEST {
         return join_long(mem, regs, m, size);
     }
     let short = join_shorts(as_short(mem, first), as_short(mem, second));
     release_value(mem, second);
     release_value(mem, first);
-    cover_two(mem, regs, Value::Short(short))
+    Ok(cover_two(mem, regs, Value::Short(short)))
 }

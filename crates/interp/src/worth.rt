@@ -6,6 +6,7 @@ ghost use Rattle.store.specs.Words.{bytes_of};
 ghost use Rattle.regions.specs.Parts.{parts};
 ghost use Rattle.interp.specs.Turns.{worth_in, truth_of};
 
+use regions::Memory;
 use regions::texts::text_view;
 use store::cells::Value;
 use store::short::Short;
@@ -13,8 +14,7 @@ use values::compare::{number_holds, text_holds};
 use values::texts::number_of;
 
 // The number that a value is taken as.
-pub fn number_in(mem: &[u64], v: Value) -> i64
-    requires { length mem.now ≡ 262144 }
+pub fn number_in(mem: &Memory, v: Value) -> i64
     ensures { number result ≡ number_of (worth_in (parts mem.now) v) }
 {
     match v {
@@ -26,8 +26,7 @@ pub fn number_in(mem: &[u64], v: Value) -> i64
 }
 
 // Whether a value counts as true.
-pub fn holds_in(mem: &[u64], v: Value) -> bool
-    requires { length mem.now ≡ 262144 }
+pub fn holds_in(mem: &Memory, v: Value) -> bool
     ensures { result ≡ holds (worth_in (parts mem.now) v) }
 {
     match v {

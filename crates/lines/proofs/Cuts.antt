@@ -3,7 +3,7 @@ use Rattle.std.proofs.Common.{◌≡◌, ℕ, zero, suc, ◌+◌, ◌-◌, ◌<�
 use Rattle.std.proofs.lemmas.List.{take_at, drop_at, take_more_set}
 use Rattle.std.proofs.lemmas.Bool.{lt-ltb, le-ltb}
 use Rattle.language.specs.Text.{pick, each, blank, fields_from}
-use Rattle.regions.specs.declared.fields.Place.{Place}
+use Rattle.store.specs.declared.place.Place.{Place}
 use Rattle.regions.specs.Places.{place_word, place_of}
 use Rattle.regions.proofs.Places.{come_back}
 use Rattle.lines.specs.Cutting.{Cuts, cuts_of, cut_of, from_to, one_more, closed_words, closed_count, pass_blank, pass_other, pass_byte, pass_all, recut_of}

@@ -10,11 +10,10 @@ use Rattle.store.proofs.Packing.{length_unpacked}
 use Rattle.store.proofs.Putting.{puts_append, puts_over}
 use Rattle.store.proofs.Moving.{window_part, window_front, window_below}
 use Rattle.regions.specs.Parts.{Parts, with_fields}
-use Rattle.regions.specs.declared.fields.Place.{Place}
+use Rattle.store.specs.declared.place.Place.{Place}
 use Rattle.regions.specs.Places.{place_of}
 use Rattle.lines.specs.declared.line.Line.{Line}
 use Rattle.lines.specs.declared.input.Input.{Input}
-use Rattle.lines.specs.declared.input.Found.TheVariants.{Whole}
 use Rattle.lines.specs.Cutting.{Cuts, cuts_of, fresh_cut, closed_words, closed_count, closed, pass_byte, pass_all, recut_of}
 use Rattle.lines.specs.Scanning.{Scanned, scan_on, scan_of, after_scan, waiting, line_at, input_of, last_of, last_words, after_last, that_fits, taken_lines, after_taken}
 use Rattle.lines.specs.Fields.{cut_out, places, noted, places_from, Sound, LineHolds}
@@ -175,7 +174,7 @@ whole_found p i s seed l r k e w n is =
       none = n;
       first = ap (whole_lines []) w ∙ first_line l r [] n;
       last = ap (last_line []) w ∙ last_after l r [] n;
-      told = found_whole i s found ∙ ap (λ x. Whole (line_at i.from x s.cuts.cut.fields)) at ∙ ap (λ x. Whole (line_at i.from (length l) x)) count;
+      told = found_whole i s found ∙ ap (λ x. Some (line_at i.from x s.cuts.cut.fields)) at ∙ ap (λ x. Some (line_at i.from (length l) x)) count;
       holds = λ room. subst (λ x. LineHolds (with_fields p x) (line_at i.from (length l) (length (fields_from [] l))) l (fields_from [] l)) (ap (λ x. x.cuts.words) (sym is)) (text_holds p seed l i.from e bytes (omega arith) room);
       waits =
           ap (λ x. waiting x ls) after ∙ ap (λ x. window x (i.to - (i.from + length l + 1)) ls) b₁ ∙ ap (λ x. window (i.from + d) x ls) b₂

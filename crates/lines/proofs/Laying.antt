@@ -8,7 +8,7 @@ use Rattle.store.specs.Words.{unpacked, window, put_byte, put_bytes}
 use Rattle.store.proofs.Putting.{length_puts, puts_append, puts_one, puts_none}
 use Rattle.store.proofs.Moving.{window_kept, window_below, window_part, window_front}
 use Rattle.regions.specs.Parts.{Parts, with_fields, with_lines}
-use Rattle.regions.specs.declared.fields.Place.{Place}
+use Rattle.store.specs.declared.place.Place.{Place}
 use Rattle.regions.specs.Places.{place_of}
 use Rattle.lines.specs.declared.line.Line.{Line}
 use Rattle.lines.specs.declared.building.Piece.{Piece}

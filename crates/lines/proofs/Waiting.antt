@@ -1,11 +1,10 @@
 -- The waiting bytes: what a scan, a piece and the end make of them.
-use Rattle.std.proofs.Common.{◌≡◌, ℕ, ◌+◌, ◌-◌, min, true, false, List, [], ◌∷◌, length, take, drop, sym, refl, ap, ◌∙◌, inl, inr, arith}
+use Rattle.std.proofs.Common.{◌≡◌, ℕ, ◌+◌, ◌-◌, min, true, false, List, [], ◌∷◌, length, take, drop, sym, refl, ap, ◌∙◌, inl, inr, arith, Some, None}
 use Rattle.std.proofs.lemmas.List.{take-take, take_all}
 use Rattle.std.proofs.lemmas.Bool.{cases_lt}
 use Rattle.language.specs.Text.{pick, none_of}
 use Rattle.store.specs.Words.{unpacked, window}
 use Rattle.lines.specs.declared.input.Input.{Input}
-use Rattle.lines.specs.declared.input.Found.TheVariants.{Whole, Part}
 use Rattle.lines.specs.Cutting.{fresh_cut}
 use Rattle.lines.specs.Scanning.{Scanned, input_of, line_at, after_scan, found_of}
 use Rattle.lines.proofs.Passing.{window_length}
@@ -24,13 +23,13 @@ pub after_part : (i : Input) (s : Scanned) → s.found ≡ false → after_scan 
 unfolding after_scan
 after_part i s e = ap (λ t. pick t (input_of (i.from + s.cuts.cut.at + 1) i.to fresh_cut i.ended) (input_of i.from i.to s.cuts.cut i.ended)) e
 
-pub found_whole : (i : Input) (s : Scanned) → s.found ≡ true → found_of i s ≡ Whole (line_at i.from s.cuts.cut.at s.cuts.cut.fields)
+pub found_whole : (i : Input) (s : Scanned) → s.found ≡ true → found_of i s ≡ Some (line_at i.from s.cuts.cut.at s.cuts.cut.fields)
 unfolding found_of
-found_whole i s e = ap (λ t. pick t (Whole (line_at i.from s.cuts.cut.at s.cuts.cut.fields)) Part) e
+found_whole i s e = ap (λ t. pick t (Some (line_at i.from s.cuts.cut.at s.cuts.cut.fields)) None) e
 
-pub found_part : (i : Input) (s : Scanned) → s.found ≡ false → found_of i s ≡ Part
+pub found_part : (i : Input) (s : Scanned) → s.found ≡ false → found_of i s ≡ None
 unfolding found_of
-found_part i s e = ap (λ t. pick t (Whole (line_at i.from s.cuts.cut.at s.cuts.cut.fields)) Part) e
+found_part i s e = ap (λ t. pick t (Some (line_at i.from s.cuts.cut.at s.cuts.cut.fields)) None) e
 
 -- no more than there are
 pub take_min : (n k : ℕ) (xs : List ℕ) → k ≡ min (length xs) n → take k xs ≡ take n xs

@@ -3,7 +3,7 @@ use Rattle.std.specs.Prelude.{ℕ, zero, suc, ◌+◌, ◌-◌, max, List, [], �
 use Rattle.language.specs.Text.{pick}
 use Rattle.store.specs.Words.{window, put_byte, put_bytes}
 use Rattle.regions.specs.Parts.{Parts, with_fields, with_lines}
-use Rattle.regions.specs.declared.fields.Place.{Place}
+use Rattle.store.specs.declared.place.Place.{Place}
 use Rattle.regions.specs.Places.{place_word}
 use Rattle.lines.specs.declared.line.Line.{Line}
 use Rattle.lines.specs.declared.building.Piece.{Piece}

@@ -1,7 +1,7 @@
 -- How a text is cut into fields in one pass over its bytes. Assumes nothing: these are definitions.
 use Rattle.std.specs.Prelude.{ℕ, ◌+◌, ◌-◌, min, List, [], ◌∷◌, nat_lt, slice_set}
 use Rattle.language.specs.Text.{pick, blank}
-use Rattle.regions.specs.declared.fields.Place.{Place}
+use Rattle.store.specs.declared.place.Place.{Place}
 use Rattle.regions.specs.Places.{place_word}
 use Rattle.lines.specs.declared.cutting.Cut.{Cut}
 

@@ -3,7 +3,7 @@ use Rattle.std.specs.Prelude.{◌≡◌, ℕ, ◌+◌, ◌<◌, ◌≤◌, List,
 use Rattle.language.specs.Text.{pick, each, blank}
 use Rattle.store.specs.Words.{window}
 use Rattle.regions.specs.Parts.{Parts}
-use Rattle.regions.specs.declared.fields.Place.{Place}
+use Rattle.store.specs.declared.place.Place.{Place}
 use Rattle.regions.specs.Places.{place_word, place_of}
 use Rattle.lines.specs.declared.line.Line.{Line}
 use Rattle.lines.specs.Cutting.{from_to}

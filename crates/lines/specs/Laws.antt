@@ -5,11 +5,10 @@ use Rattle.language.specs.Text.{has, none_of, fields_from, joined}
 use Rattle.language.specs.Meaning.{whole_lines, last_line, nth_part, set_part, short}
 use Rattle.store.specs.Words.{window}
 use Rattle.regions.specs.Parts.{Parts, with_fields, with_lines}
-use Rattle.regions.specs.declared.fields.Place.{Place}
+use Rattle.store.specs.declared.place.Place.{Place}
 use Rattle.lines.specs.declared.cutting.Cut.{Cut}
 use Rattle.lines.specs.declared.line.Line.{Line}
 use Rattle.lines.specs.declared.input.Input.{Input}
-use Rattle.lines.specs.declared.input.Found.TheVariants.{Whole, Part}
 use Rattle.lines.specs.Building.{buffer_of, filled, built, after_built, after_line, line_of}
 use Rattle.lines.specs.Cutting.{cuts_of, fresh_cut, pass_all, recut_of}
 use Rattle.lines.specs.Fields.{Sound, LineHolds}
@@ -36,7 +35,7 @@ pub record WholeFound (p : Parts) (i : Input) (s : Scanned) : Type 0 where
   pub none : has line 10 ≡ false
   pub first : whole_lines [] (waiting i p.lines) ≡ line ∷ whole_lines [] rest
   pub last : last_line [] (waiting i p.lines) ≡ last_line [] rest
-  pub told : found_of i s ≡ Whole (line_at i.from (length line) (length (fields_from [] line)))
+  pub told : found_of i s ≡ Some (line_at i.from (length line) (length (fields_from [] line)))
   pub holds : length (fields_from [] line) ≤ 16448 → LineHolds (with_fields p s.cuts.words) (line_at i.from (length line) (length (fields_from [] line))) line (fields_from [] line)
   pub waits : waiting (after_scan i s) p.lines ≡ rest
   pub ready : (after_scan i s).cut ≡ fresh_cut
@@ -45,7 +44,7 @@ pub record WholeFound (p : Parts) (i : Input) (s : Scanned) : Type 0 where
 pub record PartFound (p : Parts) (i : Input) (s : Scanned) : Type 0 where
   pub none : has (waiting i p.lines) 10 ≡ false
   pub first : whole_lines [] (waiting i p.lines) ≡ []
-  pub told : found_of i s ≡ Part
+  pub told : found_of i s ≡ None
   pub waits : waiting (after_scan i s) p.lines ≡ waiting i p.lines
   pub all : (after_scan i s).cut.at ≡ length (waiting i p.lines)
   pub ready : ScannedSo (waiting i p.lines) (with_fields p s.cuts.words) (after_scan i s).cut

@@ -1,7 +1,7 @@
 -- A line with its fields, as memory has them. Assumes nothing: these are definitions.
 use Rattle.std.specs.Prelude.{ℕ, ◌+◌, ◌-◌, min, List, ◌==◌, nat_lt, slice_index}
 use Rattle.language.specs.Text.{pick, or}
-use Rattle.regions.specs.declared.fields.Place.{Place}
+use Rattle.store.specs.declared.place.Place.{Place}
 use Rattle.regions.specs.Places.{place_of}
 use Rattle.lines.specs.declared.line.Line.{Line}
 

@@ -3,12 +3,10 @@ use Rattle.std.specs.Prelude.{ℕ, ◌+◌, ◌-◌, Bool, true, false, List, []
 use Rattle.language.specs.Text.{pick, none_of}
 use Rattle.store.specs.Words.{window, put_bytes}
 use Rattle.regions.specs.Parts.{Parts}
-use Rattle.regions.specs.declared.fields.Place.{Place}
+use Rattle.store.specs.declared.place.Place.{Place}
 use Rattle.lines.specs.declared.cutting.Cut.{Cut}
 use Rattle.lines.specs.declared.line.Line.{Line}
 use Rattle.lines.specs.declared.input.Input.{Input}
-use Rattle.lines.specs.declared.input.Found.{Found}
-use Rattle.lines.specs.declared.input.Found.TheVariants.{Whole, Part}
 use Rattle.lines.specs.Cutting.{Cuts, cuts_of, fresh_cut, closed, closed_words, closed_count, pass_byte}
 use Rattle.lines.specs.Lines.{place}
 
@@ -53,8 +51,8 @@ line_at s n k = record { place = place s n; fields = k }
 unfoldable pub after_scan : Input → Scanned → Input
 after_scan i s = pick s.found (input_of (i.from + s.cuts.cut.at + 1) i.to fresh_cut i.ended) (input_of i.from i.to s.cuts.cut i.ended)
 
-unfoldable pub found_of : Input → Scanned → Found
-found_of i s = pick s.found (Whole (line_at i.from s.cuts.cut.at s.cuts.cut.fields)) Part
+unfoldable pub found_of : Input → Scanned → Option Line
+found_of i s = pick s.found (Some (line_at i.from s.cuts.cut.at s.cuts.cut.fields)) None
 
 -- the last line
 

@@ -8,6 +8,7 @@ ghost use Rattle.lines.specs.Building.{buffer_of, piece_of, pieces, all_pieces, 
 
 use crate::cutting::recut;
 use crate::line::{Line, nth_field};
+use regions::Memory;
 use regions::fields::{Place, set_field};
 use regions::lines::{move_lines, put_line_byte, put_text};
 use store::bytes::Bytes;
@@ -39,8 +40,8 @@ struct Piece {
 }
 
 // The piece for field i + 1, where field n is to have `len` bytes that come later.
-fn piece_for(mem: &[u64], line: Line, n: usize, len: usize, i: usize) -> Piece
-    requires { (length mem.now ≡ 262144) × (i < 18446744073709551615) }
+fn piece_for(mem: &Memory, line: Line, n: usize, len: usize, i: usize) -> Piece
+    requires { i < 18446744073709551615 }
     ensures { result ≡ piece_of (parts mem.now).fields line n len i }
 {
     if i + 1 == n {
@@ -59,8 +60,7 @@ fn piece_for(mem: &[u64], line: Line, n: usize, len: usize, i: usize) -> Piece
 }
 
 // How many bytes all pieces take, each with a blank behind it, if they have room in a buffer.
-fn total_len(mem: &[u64], line: Line, n: usize, len: usize, count: usize) -> Option<usize>
-    requires { length mem.now ≡ 262144 }
+fn total_len(mem: &Memory, line: Line, n: usize, len: usize, count: usize) -> Option<usize>
     ensures { result ≡ pick (nat_le (total (pieces (parts mem.now).fields line n len count 0)) 65536) (Some (total (pieces (parts mem.now).fields line n len count 0))) None }
 {
     let mut sum = 0;
@@ -75,8 +75,8 @@ fn total_len(mem: &[u64], line: Line, n: usize, len: usize, count: usize) -> Opt
 }
 
 // Lays down the piece for field i + 1, at byte `at` of the buffer that begins at `start`.
-fn lay(mem: &mut [u64], p: Piece, start: usize, i: usize, at: usize)
-    requires { (length mem.old ≡ 262144) × ((start ≤ 135168) × (at + p.room < 65536)) }
+fn lay(mem: &mut Memory, p: Piece, start: usize, i: usize, at: usize)
+    requires { (start ≤ 135168) × (at + p.room < 65536) }
     ensures { parts mem.new ≡ laid_one (parts mem.old) start i at p }
 {
     let place = Place {
@@ -89,8 +89,8 @@ fn lay(mem: &mut [u64], p: Piece, start: usize, i: usize, at: usize)
 }
 
 // Lays down all pieces.
-fn lay_all(mem: &mut [u64], line: Line, n: usize, len: usize, count: usize)
-    requires { (length mem.old ≡ 262144) × (total (pieces (parts mem.old).fields line n len count 0) ≤ 65536) }
+fn lay_all(mem: &mut Memory, line: Line, n: usize, len: usize, count: usize)
+    requires { total (pieces (parts mem.old).fields line n len count 0) ≤ 65536 }
     ensures { parts mem.new ≡ laid (parts mem.old) (buffer_of line) 0 0 (pieces (parts mem.old).fields line n len count 0) }
 {
     let start = free_buffer(line);
@@ -104,15 +104,12 @@ fn lay_all(mem: &mut [u64], line: Line, n: usize, len: usize, count: usize)
 
 // The line with room for `len` bytes as its field n: the caller fills it, where `nth_field` says. None, and nothing is changed, if the new line would
 // have more than 65,535 bytes.
-pub fn build(mem: &mut [u64], line: Line, n: usize, len: usize) -> Option<Line>
-    requires { length mem.old ≡ 262144 }
+pub fn build(mem: &mut Memory, line: Line, n: usize, len: usize) -> Option<Line>
     ensures laid { parts mem.new ≡ after_built (parts mem.old) line n len }
     ensures line { result ≡ built (parts mem.old) line n len }
 {
     let fields = line.fields.max(n);
-    let Some(bytes) = total_len(mem, line, n, len, fields) else {
-        return None;
-    };
+    let bytes = total_len(mem, line, n, len, fields)?;
     lay_all(mem, line, n, len, fields);
     let place = Place {
         start: free_buffer(line),
@@ -122,23 +119,18 @@ pub fn build(mem: &mut [u64], line: Line, n: usize, len: usize) -> Option<Line>
 }
 
 // The line with the bytes of a value as its field n; None, and nothing is changed, if it would have more than 65,535 bytes.
-pub fn set_line_field<T: Bytes>(mem: &mut [u64], line: Line, n: usize, value: &T) -> Option<Line>
-    requires { length mem.old ≡ 262144 }
+pub fn set_line_field<T: Bytes>(mem: &mut Memory, line: Line, n: usize, value: &T) -> Option<Line>
     ensures filled { parts mem.new ≡ after_set (parts mem.old) line n (T.Bytes.bytes value.now) }
     ensures line { result ≡ built (parts mem.old) line n (length (T.Bytes.bytes value.now)) }
 {
-    let new = match build(mem, line, n, value.len()) {
-        Some(new) => new,
-        None => return None,
-    };
+    let new = build(mem, line, n, value.len())?;
     let gap = nth_field(mem, new, n);
     put_text(mem, gap.start, value);
     Some(new)
 }
 
 // The bytes of a value as a line of their own, in a buffer in which the line before does not lie.
-pub fn set_line<T: Bytes>(mem: &mut [u64], line: Line, value: &T) -> Line
-    requires { length mem.old ≡ 262144 }
+pub fn set_line<T: Bytes>(mem: &mut Memory, line: Line, value: &T) -> Line
     ensures cut { parts mem.new ≡ after_line (parts mem.old) line (T.Bytes.bytes value.now) }
     ensures line { result ≡ line_of (parts mem.old) line (T.Bytes.bytes value.now) }
 {

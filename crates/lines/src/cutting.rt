@@ -1,12 +1,13 @@
 // A text is cut into fields in one pass over its bytes.
 ghost use Rattle.std.specs.Prelude.{◌≡◌, ℕ, ◌+◌, ◌-◌, ◌*◌, ◌<◌, ◌≤◌, min, length};
-ghost use Rattle.language.specs.Text.{blank};
 ghost use Rattle.store.specs.Words.{unpacked, window};
 ghost use Rattle.regions.specs.Parts.{Parts, parts, with_fields};
 ghost use Rattle.lines.specs.Cutting.{Cuts, cuts_of, fresh_cut, closed_words, closed_count, pass_byte, recut_of};
 
+use regions::Memory;
 use regions::fields::{Place, set_field};
 use regions::lines::{BYTES, byte_within};
+use store::bytes::is_blank;
 
 // How far a text is cut. Places count from where the text begins, so they stay as they are when it is moved.
 #[derive(Clone, Copy)]
@@ -38,8 +39,7 @@ pub fn len_at(place: Place) -> usize
 }
 
 // The field that has not ended ends here, if there is one; says how many there are then.
-pub fn close(mem: &mut [u64], cut: Cut) -> usize
-    requires { length mem.old ≡ 262144 }
+pub fn close(mem: &mut Memory, cut: Cut) -> usize
     ensures noted { parts mem.new ≡ with_fields (parts mem.old) (closed_words (parts mem.old).fields cut) }
     ensures count { result ≡ closed_count cut }
 {
@@ -56,8 +56,8 @@ pub fn close(mem: &mut [u64], cut: Cut) -> usize
 }
 
 // Passes byte b of the text.
-pub fn pass(mem: &mut [u64], cut: Cut, b: u8) -> Cut
-    requires { (length mem.old ≡ 262144) × (cut.at < 200704) }
+pub fn pass(mem: &mut Memory, cut: Cut, b: u8) -> Cut
+    requires { cut.at < 200704 }
     ensures noted { parts mem.new ≡ with_fields (parts mem.old) (pass_byte b (cuts_of (parts mem.old).fields cut)).words }
     ensures cut { result ≡ (pass_byte b (cuts_of (parts mem.old).fields cut)).cut }
 {
@@ -78,22 +78,15 @@ pub fn pass(mem: &mut [u64], cut: Cut, b: u8) -> Cut
     }
 }
 
-fn is_blank(b: u8) -> bool
-    ensures { result ≡ blank b }
-{
-    b == b' ' || b == b'\t'
-}
-
 // Cuts the text at a place into fields, and says how many there are.
-pub fn recut(mem: &mut [u64], place: Place) -> usize
-    requires { length mem.old ≡ 262144 }
+pub fn recut(mem: &mut Memory, place: Place) -> usize
     ensures noted { parts mem.new ≡ with_fields (parts mem.old) (recut_of (parts mem.old).fields (window place.start place.len (parts mem.old).lines)).words }
     ensures count { result ≡ (recut_of (parts mem.old).fields (window place.start place.len (parts mem.old).lines)).cut.fields }
 {
     let n = len_at(place);
     let mut cut = fresh();
-    while cut.at < n {
-        let b = byte_within(mem, place.start + cut.at);
+    for i in 0..n {
+        let b = byte_within(mem, place.start + i);
         cut = pass(mem, cut, b);
     }
     close(mem, cut)

@@ -7,6 +7,7 @@ ghost use Rattle.lines.specs.Scanning.{scan_on, scan_of, found_of, after_scan, w
 
 use crate::cutting::{Cut, close, fresh, len_at, pass};
 use crate::line::Line;
+use regions::Memory;
 use regions::fields::Place;
 use regions::lines::{byte_within, put_piece, shift_lines};
 
@@ -25,15 +26,6 @@ pub struct Input {
     pub ended: bool,
 }
 
-// What a scan finds.
-#[derive(Clone, Copy)]
-pub enum Found {
-    // A line that is whole.
-    Whole(Line),
-    // Part of a line.
-    Part,
-}
-
 // Where the waiting bytes are.
 fn waits(input: Input) -> Place
     ensures { result ≡ waits_at input }
@@ -45,8 +37,7 @@ fn waits(input: Input) -> Place
 }
 
 // Moves the waiting bytes to the front, and puts a piece behind them, as much of it as has room.
-pub fn take_in(mem: &mut [u64], input: &mut Input, piece: &[u8])
-    requires { length mem.old ≡ 262144 }
+pub fn take_in(mem: &mut Memory, input: &mut Input, piece: &[u8])
     ensures lines { parts mem.new ≡ with_lines (parts mem.old) (taken_lines (parts mem.old).lines (waiting input.old (parts mem.old).lines) piece.now) }
     ensures input { input.new ≡ after_taken input.old (waiting input.old (parts mem.old).lines) piece.now }
 {
@@ -59,8 +50,8 @@ pub fn take_in(mem: &mut [u64], input: &mut Input, piece: &[u8])
 }
 
 // Goes on with the n bytes from byte `from` on, to the end of a line, which it says, or of the bytes.
-fn scan_on(mem: &mut [u64], from: usize, n: usize, cut: &mut Cut) -> bool
-    requires { (length mem.old ≡ 262144) × (n ≤ 200704 - from) }
+fn scan_on(mem: &mut Memory, from: usize, n: usize, cut: &mut Cut) -> bool
+    requires { n ≤ 200704 - from }
     ensures noted { parts mem.new ≡ with_fields (parts mem.old) (scan_on (drop cut.old.at (window from n (parts mem.old).lines)) (cuts_of (parts mem.old).fields cut.old)).cuts.words }
     ensures cut { cut.new ≡ (scan_on (drop cut.old.at (window from n (parts mem.old).lines)) (cuts_of (parts mem.old).fields cut.old)).cuts.cut }
     ensures found { result ≡ (scan_on (drop cut.old.at (window from n (parts mem.old).lines)) (cuts_of (parts mem.old).fields cut.old)).found }
@@ -85,9 +76,8 @@ fn scan_on(mem: &mut [u64], from: usize, n: usize, cut: &mut Cut) -> bool
     false
 }
 
-// Looks for the next line, from where it has come to before, and notes the fields that it passes.
-pub fn scan(mem: &mut [u64], input: &mut Input) -> Found
-    requires { length mem.old ≡ 262144 }
+// Looks for the next line, from where it has come to before, and notes the fields that it passes. None, where what waits is part of a line.
+pub fn scan(mem: &mut Memory, input: &mut Input) -> Option<Line>
     ensures noted { parts mem.new ≡ with_fields (parts mem.old) (scan_of (parts mem.old) input.old).cuts.words }
     ensures input { input.new ≡ after_scan input.old (scan_of (parts mem.old) input.old) }
     ensures found { result ≡ found_of input.old (scan_of (parts mem.old) input.old) }
@@ -101,19 +91,18 @@ pub fn scan(mem: &mut [u64], input: &mut Input) -> Found
         };
         input.from = input.from + cut.at + 1;
         input.cut = fresh();
-        Found::Whole(Line {
+        Some(Line {
             place,
             fields: cut.fields,
         })
     } else {
         input.cut = cut;
-        Found::Part
+        None
     }
 }
 
 // At the end: what waits is a line, if it has bytes.
-pub fn last_line(mem: &mut [u64], input: &mut Input) -> Option<Line>
-    requires { length mem.old ≡ 262144 }
+pub fn last_line(mem: &mut Memory, input: &mut Input) -> Option<Line>
     ensures noted { parts mem.new ≡ with_fields (parts mem.old) (last_words (parts mem.old) input.old) }
     ensures input { input.new ≡ after_last (parts mem.old) input.old }
     ensures line { result ≡ last_of (parts mem.old) input.old }

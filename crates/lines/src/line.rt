@@ -3,6 +3,7 @@ ghost use Rattle.std.specs.Prelude.{◌≡◌, ℕ, ◌+◌, ◌<◌, ◌≤◌,
 ghost use Rattle.regions.specs.Parts.{parts};
 ghost use Rattle.lines.specs.Lines.{nth_place};
 
+use regions::Memory;
 use regions::fields::{Place, field_at};
 
 // The region of fields has the places of its fields, counted from where the line begins.
@@ -13,8 +14,7 @@ pub struct Line {
 }
 
 // Where field n is, the first being 1; an empty place if there is none.
-pub fn nth_field(mem: &[u64], line: Line, n: usize) -> Place
-    requires { length mem.now ≡ 262144 }
+pub fn nth_field(mem: &Memory, line: Line, n: usize) -> Place
     ensures { result ≡ nth_place (parts mem.now).fields line n }
 {
     if n == 0 || line.fields < n {

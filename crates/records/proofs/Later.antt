@@ -6,7 +6,7 @@ use Rattle.language.specs.Text.{blank}
 use Rattle.store.proofs.Putting.{set_fits}
 use Rattle.regions.specs.Parts.{Parts, with_fields}
 use Rattle.regions.specs.Places.{place_word}
-use Rattle.regions.specs.declared.fields.Place.{Place}
+use Rattle.store.specs.declared.place.Place.{Place}
 use Rattle.lines.specs.declared.cutting.Cut.{Cut}
 use Rattle.lines.specs.Cutting.{Cuts, cuts_of, cut_of, fresh_cut, from_to, closed, closed_words, closed_count, pass_blank, pass_byte, pass_all, recut_of}
 use Rattle.lines.specs.Scanning.{scan_on}

@@ -10,8 +10,7 @@ use Rattle.semantics.specs.Lines.{Now, Live, live, over, line_stage, fresh, buff
 use Rattle.semantics.specs.Engine.{Stopping}
 use Rattle.store.specs.Space.{Space}
 use Rattle.regions.specs.Parts.{Parts, parts, with_fields, with_lines}
-use Rattle.interp.specs.declared.Turn.{Turn}
-use Rattle.interp.specs.declared.Turn.TheVariants.{On, Ask, Done, Refuse}
+use Rattle.interp.specs.Outcomes.{Turn, On, Ask, Done, Refuse}
 use Rattle.interp.specs.declared.registers.Registers.{Registers}
 use Rattle.interp.specs.Turns.{Did, dropped}
 use Rattle.interp.specs.Between.{opening, closing, with_input}

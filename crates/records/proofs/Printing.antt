@@ -13,7 +13,7 @@ use Rattle.regions.specs.Parts.{Parts, with_registers, with_texts}
 use Rattle.store.specs.declared.cells.Value.TheVariants.{Unset}
 use Rattle.store.specs.Values.{decoded}
 use Rattle.rows.specs.Rows.{run, worths, fitting, went}
-use Rattle.interp.specs.declared.Turn.TheVariants.{On}
+use Rattle.interp.specs.Outcomes.{On}
 use Rattle.interp.specs.declared.registers.Registers.{Registers}
 use Rattle.interp.specs.Registers.{rested}
 use Rattle.interp.specs.Turns.{Did, says, releasing}

@@ -1,5 +1,5 @@
 -- The next line is looked for: whatever comes of it, the abstract machine does the same.
-use Rattle.std.proofs.Common.{◌≡◌, ℕ, suc, ◌+◌, ◌-◌, ◌<◌, ◌≤◌, Bool, true, false, ◌⊎◌, List, [], ◌∷◌, ◌++◌, length, take, drop, sym, refl, ap, ◌∙◌, subst, inl, inr, arith, length-append, length-drop}
+use Rattle.std.proofs.Common.{◌≡◌, ℕ, suc, ◌+◌, ◌-◌, ◌<◌, ◌≤◌, Bool, true, false, ◌⊎◌, List, [], ◌∷◌, ◌++◌, length, take, drop, sym, refl, ap, ◌∙◌, subst, inl, inr, arith, length-append, length-drop, Some, None, Option}
 use Rattle.std.proofs.lemmas.List.{drop_all, take-append-le}
 use Rattle.std.proofs.lemmas.Bool.{lt-ltb, le-ltb, cases_lt, cases_Bool}
 use Rattle.language.specs.Text.{pick, has, none_of, fields_from}
@@ -10,8 +10,6 @@ use Rattle.semantics.specs.Lines.{part, cut_line, line_stage, last_stage, fresh,
 use Rattle.regions.specs.Parts.{Parts, with_fields}
 use Rattle.lines.specs.declared.line.Line.{Line}
 use Rattle.lines.specs.declared.input.Input.{Input}
-use Rattle.lines.specs.declared.input.Found.{Found}
-use Rattle.lines.specs.declared.input.Found.TheVariants.{Whole, Part}
 use Rattle.lines.specs.Cutting.{Cuts, cuts_of, fresh_cut, closed, closed_words}
 use Rattle.lines.specs.Fields.{Sound, LineHolds}
 use Rattle.lines.specs.Laws.{ScannedSo, WholeFound, PartFound, ScanSays, LastFound, NoneLeft, LastSays}
@@ -19,7 +17,7 @@ use Rattle.lines.specs.Scanning.{Scanned, scan_on, scan_of, after_scan, waiting,
 use Rattle.lines.proofs.Passing.{window_length}
 use Rattle.lines.proofs.Waiting.{after_found, after_part, found_whole}
 use Rattle.lines.proofs.Holding.{scan_says, last_holds, fresh_so}
-use Rattle.interp.specs.declared.Turn.TheVariants.{On, Ask, Refuse}
+use Rattle.interp.specs.Outcomes.{On, Ask, Refuse}
 use Rattle.interp.specs.declared.registers.Stage.{Stage}
 use Rattle.interp.specs.declared.registers.Stage.TheVariants.{Begin, Lines, End}
 use Rattle.interp.specs.declared.registers.Registers.{Registers}
@@ -61,9 +59,9 @@ none_is [] e = refl
 none_is (x ∷ xs) e = absurd (let z : ◌≡◌ {A = ℕ} 0 1 = sym (ap (λ y. pick y 1 0) (sym e)) in omega arith)
 
 -- how long a line is that was found
-abbrev found_len : Found → ℕ
-found_len (Whole l) = l.place.len
-found_len Part = 0
+abbrev found_len : Option Line → ℕ
+found_len (Some l) = l.place.len
+found_len None = 0
 
 next_count : (c n : ℕ) → c ≡ n → n < 18446744073709551615 → after c ≡ suc n
 next_count c n e h = omega arith

@@ -21,7 +21,7 @@ use Rattle.lines.proofs.Pieces.{buffer_second, buffer_first, buffer_below}
 use Rattle.lines.proofs.Cuts.{recut_words, length_noted}
 use Rattle.lines.proofs.Holding.{fresh_so}
 use Rattle.lines.proofs.Laying.{build_says, line_right}
-use Rattle.interp.specs.declared.Turn.TheVariants.{Refuse}
+use Rattle.interp.specs.Outcomes.{Refuse}
 use Rattle.interp.specs.declared.registers.Registers.{Registers}
 use Rattle.interp.specs.Turns.{Did, says}
 use Rattle.engine.specs.Setting.{relined, line_set, nth_set_by, nth_set, field_set_by}

@@ -22,8 +22,7 @@ use Rattle.store.proofs.Packing.{bytes_below}
 use Rattle.store.proofs.Moving.{window_below}
 use Rattle.store.proofs.Digits.{number_below}
 use Rattle.regions.specs.Parts.{Parts, with_texts}
-use Rattle.interp.specs.declared.Turn.{Turn}
-use Rattle.interp.specs.declared.Turn.TheVariants.{On, Refuse}
+use Rattle.interp.specs.Outcomes.{Turn, On, Refuse}
 use Rattle.interp.specs.declared.ops.Op.{Op}
 use Rattle.interp.specs.declared.ops.Op.TheVariants.{Load, Save, LineCount, FieldCount, GetField, SetField, Not, Opposite, Calculate, Compare, Join, Unknown, Truth, Fail, Jump, JumpIf, JumpUnless, Drop, PrintLine, PrintValues, LeaveLine, Exit, End}
 use Rattle.interp.specs.declared.registers.Registers.{Registers}
@@ -35,7 +34,8 @@ use Rattle.interp.specs.Slots.{slot_of, slotting, loaded, kept_in, line_counted,
 use Rattle.interp.specs.Texts.{text_in, joined_in, joined_long, joined}
 use Rattle.interp.specs.Turns.{Did, says, after, top_of, under_of, worth_in, holding, releasing, stacking, pushed, replaced, replaced_two, dropped, truth_of}
 use Rattle.engine.specs.Prints.{released}
-use Rattle.engine.specs.Dispatch.{fetched, performed}
+use Rattle.interp.specs.Dispatch.{fetched}
+use Rattle.engine.specs.Dispatch.{performed}
 use Rattle.records.specs.Records.{InWords, SameRecords}
 use Rattle.records.specs.Saving.{Word, TextsSo, SmallValue, SmallCode, ValuesSo, at_place, with_values, OnlyValues, PlainOp}
 use Rattle.records.proofs.Texts.{short_value, word_number, text_value, decoded_small, saved_size, saved_small, allocated_so, written_so, kept_so, let_go_so, ValueSo, MadeSo, made_so}

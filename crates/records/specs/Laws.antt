@@ -11,7 +11,7 @@ use Rattle.semantics.specs.Invariants as invariants
 use Rattle.regions.specs.Parts.{Parts, with_fields, with_lines}
 use Rattle.lines.specs.declared.line.Line.{Line}
 use Rattle.lines.specs.declared.input.Input.{Input}
-use Rattle.interp.specs.declared.Turn.TheVariants.{On, Ask, Done, Refuse}
+use Rattle.interp.specs.Outcomes.{On, Ask, Done, Refuse}
 use Rattle.interp.specs.declared.registers.Stage.{Stage}
 use Rattle.interp.specs.declared.registers.Stage.TheVariants.{Begin, Lines, End}
 use Rattle.interp.specs.declared.registers.Registers.{Registers}

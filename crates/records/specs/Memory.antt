@@ -9,7 +9,7 @@ use Rattle.semantics.specs.Code.{Entries, entries}
 use Rattle.semantics.specs.Lines.{Now, Live, buffer, live_out, follow}
 use Rattle.semantics.specs.Engine.{Stopping}
 use Rattle.regions.specs.Parts.{Parts, parts}
-use Rattle.interp.specs.declared.Turn.TheVariants.{Done, Refuse}
+use Rattle.interp.specs.Outcomes.{Done, Refuse}
 use Rattle.interp.specs.declared.registers.Registers.{Registers}
 use Rattle.interp.specs.Turns.{Did}
 use Rattle.engine.specs.Scenes.{Scene, piece_taken, end_told, regs_of, saved}

@@ -6,7 +6,7 @@ use Rattle.language.specs.Meaning.{printed}
 use Rattle.language.specs.Run.{a_row}
 use Rattle.semantics.specs.Invariants.{All, Sound}
 use Rattle.regions.specs.Parts.{Parts, with_registers, with_texts}
-use Rattle.interp.specs.declared.Turn.TheVariants.{On}
+use Rattle.interp.specs.Outcomes.{On}
 use Rattle.interp.specs.declared.registers.Registers.{Registers}
 use Rattle.interp.specs.Registers.{rested}
 use Rattle.interp.specs.Turns.{Did, says}

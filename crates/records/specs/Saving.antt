@@ -11,7 +11,8 @@ use Rattle.interp.specs.declared.ops.Op.{Op}
 use Rattle.interp.specs.declared.ops.Op.TheVariants.{Load, Save, LineCount, FieldCount, GetField, SetField, Not, Opposite, Calculate, Compare, Join, Unknown, Truth, Fail, Jump, JumpIf, JumpUnless, Drop, PrintLine, PrintValues, LeaveLine, Exit, End}
 use Rattle.interp.specs.Turns.{Did, dropped}
 use Rattle.engine.specs.Prints.{released}
-use Rattle.engine.specs.Dispatch.{fetched, performed}
+use Rattle.interp.specs.Dispatch.{fetched}
+use Rattle.engine.specs.Dispatch.{performed}
 use Rattle.engine.specs.Scenes.{Scene, regs_of, put_away, saved}
 use Rattle.records.specs.Records.{InWords, BetweenLines, SameRecords}
 use Rattle.records.specs.Prints.{Pending}

@@ -1,6 +1,6 @@
 -- Places in words.
 use Rattle.std.proofs.Common.{◌≡◌, ℕ, ◌<◌, arith}
-use Rattle.regions.specs.declared.fields.Place.{Place}
+use Rattle.store.specs.declared.place.Place.{Place}
 use Rattle.regions.specs.Places.{place_word, place_of}
 
 same_place : (a b c d : ℕ) → a ≡ c → b ≡ d → ◌≡◌ {A = Place} (record { start = a; len = b }) (record { start = c; len = d })

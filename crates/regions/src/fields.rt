@@ -3,7 +3,8 @@ ghost use Rattle.std.specs.Prelude.{◌≡◌, ℕ, ◌+◌, ◌*◌, ◌<◌, �
 ghost use Rattle.regions.specs.Parts.{Parts, parts, with_fields};
 ghost use Rattle.regions.specs.Places.{place_word, place_of, PlacesComeBack};
 
-use crate::{put, word};
+use crate::{Memory, put, word};
+pub use store::place::Place;
 
 // How many places there is room for.
 pub const FIELDS: usize = 16_448;
@@ -12,13 +13,6 @@ const FROM: usize = 53_440;
 
 const HALF: u64 = 1 << 32;
 
-// Part of a text: where it begins, and how many bytes it has.
-#[derive(Clone, Copy)]
-pub struct Place {
-    pub start: usize,
-    pub len: usize,
-}
-
 fn word_of(place: Place) -> u64
     ensures { result ≡ place_word place }
 {
@@ -26,8 +20,7 @@ fn word_of(place: Place) -> u64
 }
 
 // The place at an index; an empty one behind the end.
-pub fn field_at(mem: &[u64], i: usize) -> Place
-    requires { length mem.now ≡ 262144 }
+pub fn field_at(mem: &Memory, i: usize) -> Place
     ensures { result ≡ place_of (slice_index (parts mem.now).fields i) }
 {
     let w = word(&mem[FROM..FROM + FIELDS], i);
@@ -38,8 +31,7 @@ pub fn field_at(mem: &[u64], i: usize) -> Place
 }
 
 // Notes a place at an index; behind the end nothing is changed.
-pub fn set_field(mem: &mut [u64], i: usize, place: Place)
-    requires { length mem.old ≡ 262144 }
+pub fn set_field(mem: &mut Memory, i: usize, place: Place)
     ensures { parts mem.new ≡ with_fields (parts mem.old) (slice_set (parts mem.old).fields i (place_word place)) }
 {
     put(&mut mem[FROM..FROM + FIELDS], i, word_of(place));

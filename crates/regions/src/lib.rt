@@ -12,6 +12,9 @@ ghost use Rattle.regions.specs.Parts.{Parts, parts, with_code};
 // How many words the memory has.
 pub const MEMORY: usize = 262_144;
 
+// The machine's memory, which is lent to it.
+pub type Memory = [u64; MEMORY];
+
 const CODE: usize = 64;
 
 const SLOTS: usize = 12_416;
@@ -19,7 +22,7 @@ const SLOTS: usize = 12_416;
 fn word(region: &[u64], i: usize) -> u64
     ensures { result ≡ slice_index region.now i }
 {
-    if i < region.len() { region[i] } else { 0 }
+    region.get(i).copied().unwrap_or(0)
 }
 
 fn put(region: &mut [u64], i: usize, v: u64)
@@ -31,15 +34,13 @@ fn put(region: &mut [u64], i: usize, v: u64)
 }
 
 // The word of code at a place; 0 behind the end.
-pub fn code_at(mem: &[u64], i: usize) -> u64
-    requires { length mem.now ≡ 262144 }
+pub fn code_at(mem: &Memory, i: usize) -> u64
     ensures { result ≡ slice_index (parts mem.now).code i }
 {
     word(&mem[CODE..SLOTS], i)
 }
 
-pub fn set_code(mem: &mut [u64], i: usize, v: u64)
-    requires { length mem.old ≡ 262144 }
+pub fn set_code(mem: &mut Memory, i: usize, v: u64)
     ensures { parts mem.new ≡ with_code (parts mem.old) (slice_set (parts mem.old).code i v) }
 {
     put(&mut mem[CODE..SLOTS], i, v);

@@ -4,9 +4,10 @@ ghost use Rattle.std.specs.Prelude.{◌≡◌, ℕ, ◌+◌, ◌-◌, ◌*◌, �
 ghost use Rattle.store.specs.Words.{unpacked, window, put_byte, put_bytes};
 ghost use Rattle.regions.specs.Parts.{Parts, parts, with_lines};
 
-use crate::fields::Place;
+use crate::Memory;
 use store::bytes::Bytes;
 use store::packed::{Packed, byte, window_of};
+use store::place::Place;
 use store::writing::{copy_in, copy_piece, move_bytes, set_byte, shift_down};
 
 const FROM: usize = 69_888;
@@ -17,56 +18,50 @@ const TO: usize = 94_976;
 pub const BYTES: usize = 200_704;
 
 // Byte i of the region, which has so many.
-pub fn byte_within(mem: &[u64], i: usize) -> u8
-    requires { (length mem.now ≡ 262144) × (i < 200704) }
+pub fn byte_within(mem: &Memory, i: usize) -> u8
+    requires { i < 200704 }
     ensures { result ≡ slice_index (unpacked (parts mem.now).lines) i }
 {
     byte(&mem[FROM..TO], i)
 }
 
 // Byte i of the region; 0 behind the end.
-pub fn line_byte(mem: &[u64], i: usize) -> u8
-    requires { length mem.now ≡ 262144 }
+pub fn line_byte(mem: &Memory, i: usize) -> u8
     ensures { result ≡ slice_index (unpacked (parts mem.now).lines) i }
 {
     if i < BYTES { byte_within(mem, i) } else { 0 }
 }
 
 // The bytes at a place; fewer where the region ends.
-pub fn line_window(mem: &[u64], place: Place) -> Packed<'_>
-    requires { length mem.now ≡ 262144 }
+pub fn line_window(mem: &Memory, place: Place) -> Packed<'_>
     ensures { window result.from result.len result.words.now ≡ window place.start place.len (parts mem.now).lines }
 {
     window_of(&mem[FROM..TO], place.start, place.len)
 }
 
 // Byte i becomes b; behind the end nothing is changed.
-pub fn put_line_byte(mem: &mut [u64], i: usize, b: u8)
-    requires { length mem.old ≡ 262144 }
+pub fn put_line_byte(mem: &mut Memory, i: usize, b: u8)
     ensures { parts mem.new ≡ with_lines (parts mem.old) (put_byte (parts mem.old).lines i b) }
 {
     set_byte(&mut mem[FROM..TO], i, b);
 }
 
 // Puts the bytes of a piece from byte `to` on, as many as there is room for.
-pub fn put_piece(mem: &mut [u64], to: usize, piece: &[u8])
-    requires { length mem.old ≡ 262144 }
+pub fn put_piece(mem: &mut Memory, to: usize, piece: &[u8])
     ensures { parts mem.new ≡ with_lines (parts mem.old) (put_bytes (parts mem.old).lines to piece.now) }
 {
     copy_piece(piece, &mut mem[FROM..TO], to);
 }
 
 // Puts the bytes of a text, in the same way.
-pub fn put_text<T: Bytes>(mem: &mut [u64], to: usize, t: &T)
-    requires { length mem.old ≡ 262144 }
+pub fn put_text<T: Bytes>(mem: &mut Memory, to: usize, t: &T)
     ensures { parts mem.new ≡ with_lines (parts mem.old) (put_bytes (parts mem.old).lines to (T.Bytes.bytes t.now)) }
 {
     copy_in(t, &mut mem[FROM..TO], to);
 }
 
 // Moves n bytes from byte `from` on to the beginning; fewer where the region ends.
-pub fn shift_lines(mem: &mut [u64], from: usize, n: usize)
-    requires { length mem.old ≡ 262144 }
+pub fn shift_lines(mem: &mut Memory, from: usize, n: usize)
     ensures { parts mem.new ≡ with_lines (parts mem.old) (put_bytes (parts mem.old).lines 0 (window from n (parts mem.old).lines)) }
 {
     shift_down(&mut mem[FROM..TO], from, n);
@@ -74,7 +69,6 @@ pub fn shift_lines(mem: &mut [u64], from: usize, n: usize)
 
 // Moves n bytes from byte `from` on to where byte `to` is, in some words; fewer where the words end.
 fn move_within(words: &mut [u64], from: usize, to: usize, n: usize)
-    requires { length words.old < 2 ^ 60 }
     ensures { words.new ≡ put_bytes words.old to (window from n words.old) }
 {
     let end = 8 * words.len();
@@ -85,8 +79,7 @@ fn move_within(words: &mut [u64], from: usize, to: usize, n: usize)
 }
 
 // Moves n bytes from byte `from` on to where byte `to` is; fewer where the region ends.
-pub fn move_lines(mem: &mut [u64], from: usize, to: usize, n: usize)
-    requires { length mem.old ≡ 262144 }
+pub fn move_lines(mem: &mut Memory, from: usize, to: usize, n: usize)
     ensures { parts mem.new ≡ with_lines (parts mem.old) (put_bytes (parts mem.old).lines to (window from n (parts mem.old).lines)) }
 {
     move_within(&mut mem[FROM..TO], from, to, n);

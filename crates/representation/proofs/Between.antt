@@ -23,7 +23,7 @@ use Rattle.lines.specs.Scanning.{Scanned, scan_on, scan_of, after_scan, found_of
 use Rattle.lines.proofs.Holding.{scan_says, last_holds, fresh_so}
 use Rattle.lines.proofs.Passing.{window_length}
 use Rattle.lines.proofs.Waiting.{after_found, after_part}
-use Rattle.interp.specs.declared.Turn.TheVariants.{On, Ask, Refuse}
+use Rattle.interp.specs.Outcomes.{On, Ask, Refuse}
 use Rattle.interp.specs.declared.registers.Stage.{Stage}
 use Rattle.interp.specs.declared.registers.Stage.TheVariants.{Begin, Lines as ForLines, End}
 use Rattle.interp.specs.declared.registers.Registers.{Registers}

@@ -23,8 +23,7 @@ use Rattle.assembly.proofs.Machine.{steps as op_steps}
 use Rattle.assembly.proofs.Sizes.{sizes}
 use Rattle.assembly.proofs.Known.{only_known}
 use Rattle.regions.specs.Parts.{Parts}
-use Rattle.interp.specs.declared.Turn.{Turn}
-use Rattle.interp.specs.declared.Turn.TheVariants.{On, Ask, Done, Refuse}
+use Rattle.interp.specs.Outcomes.{Turn, On, Ask, Done, Refuse}
 use Rattle.interp.specs.declared.registers.Registers.{Registers}
 use Rattle.interp.specs.Turns.{Did}
 use Rattle.representation.specs.Room.{Apart, Slight}

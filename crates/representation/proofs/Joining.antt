@@ -16,7 +16,7 @@ use Rattle.store.specs.Space.{Given, span, handle_of, allocated, written}
 use Rattle.store.proofs.Shorts.{short_bytes}
 use Rattle.store.proofs.Reading.{filled}
 use Rattle.regions.specs.Parts.{Parts, with_texts}
-use Rattle.interp.specs.declared.Turn.TheVariants.{Refuse}
+use Rattle.interp.specs.Outcomes.{Refuse}
 use Rattle.interp.specs.declared.registers.Registers.{Registers}
 use Rattle.interp.specs.Turns.{Did, says, top_of, under_of, replaced_two}
 use Rattle.interp.specs.Texts.{text_in, putting, joined_in, joined_long, joined_as, joined}

@@ -18,8 +18,7 @@ use Rattle.values.specs.declared.numbers.Arithmetic.{Arithmetic}
 use Rattle.values.specs.declared.compare.Comparison.{Comparison}
 use Rattle.values.specs.Numbers.{operation}
 use Rattle.values.specs.Compare.{operator}
-use Rattle.interp.specs.declared.Turn.{Turn}
-use Rattle.interp.specs.declared.Turn.TheVariants.{On, Refuse}
+use Rattle.interp.specs.Outcomes.{Turn, On, Refuse}
 use Rattle.interp.specs.declared.registers.Registers.{Registers}
 use Rattle.interp.specs.Turns.{Did, says, after, top_of, worth_in, replaced, replaced_two, truth_of}
 use Rattle.interp.specs.Slots.{slot_of, loaded, kept_in, line_counted, fields_counted}

@@ -15,7 +15,7 @@ use Rattle.store.specs.Values.{held_by}
 use Rattle.store.specs.Worth.{meant, Plain}
 use Rattle.regions.specs.Parts.{Parts, with_texts}
 use Rattle.lines.specs.declared.line.Line.{Line}
-use Rattle.interp.specs.declared.Turn.TheVariants.{On, Refuse}
+use Rattle.interp.specs.Outcomes.{On, Refuse}
 use Rattle.interp.specs.declared.registers.Registers.{Registers}
 use Rattle.interp.specs.Turns.{says, placed, after, holding, stacking, pushed, replaced, replaced_two, dropped}
 use Rattle.representation.specs.Values.{holders, Holds}

@@ -11,8 +11,7 @@ use Rattle.semantics.specs.Code.{code, program_code}
 use Rattle.semantics.specs.Engine.{Comes, Stopping}
 use Rattle.assembly.specs.Assembly.{Op, op_load, op_save, op_line_count, op_field_count, op_get_field, op_set_field, op_one, op_two, op_truth, op_fail, op_jump, op_jump_if, op_jump_unless, op_drop, op_print_line, op_print_values, op_leave_line, op_exit, op_end, is_note, lean_place, op_at}
 use Rattle.regions.specs.Parts.{Parts}
-use Rattle.interp.specs.declared.Turn.{Turn}
-use Rattle.interp.specs.declared.Turn.TheVariants.{On, Ask, Done, Refuse}
+use Rattle.interp.specs.Outcomes.{Turn, On, Ask, Done, Refuse}
 use Rattle.interp.specs.declared.registers.Registers.{Registers}
 use Rattle.interp.specs.Turns.{Did}
 use Rattle.representation.specs.Relation.{Stands, Rep}

@@ -6,7 +6,7 @@ use Rattle.store.specs.declared.cells.Value.{Value}
 use Rattle.store.specs.declared.cells.Value.TheVariants.{Unset}
 use Rattle.store.specs.Words.{over, window}
 use Rattle.store.specs.Values.{decoded, worth}
-use Rattle.regions.specs.declared.fields.Place.{Place}
+use Rattle.store.specs.declared.place.Place.{Place}
 use Rattle.regions.specs.Parts.{Parts}
 use Rattle.rows.specs.declared.Printed.{Printed}
 

@@ -16,6 +16,7 @@ ghost use Rattle.rows.specs.Laws.{PrintLaws};
 
 use crate::copying::write_packed;
 use crate::pen::{Pen, write_byte, write_text};
+use regions::Memory;
 use regions::cells::stacked;
 use regions::fields::Place;
 use regions::lines::line_window;
@@ -36,8 +37,7 @@ pub struct Printed {
 }
 
 // Writes the text of a value.
-fn write_value(mem: &[u64], v: Value, row: &mut [u8], pen: Pen) -> Pen
-    requires { length mem.now ≡ 262144 }
+fn write_value(mem: &Memory, v: Value, row: &mut [u8], pen: Pen) -> Pen
     ensures { writing row.new result ≡ put (writing row.old pen) (as_text (worth 77822 (parts mem.now).texts v)) }
 {
     match v {
@@ -49,8 +49,8 @@ fn write_value(mem: &[u64], v: Value, row: &mut [u8], pen: Pen) -> Pen
 }
 
 // Writes the text of value i of those from cell `from` of the stack on, with a blank before it unless it is the first.
-fn write_nth(mem: &[u64], from: usize, i: usize, row: &mut [u8], pen: Pen) -> Pen
-    requires { (length mem.now ≡ 262144) × (from + i < 2 ^ 64) }
+fn write_nth(mem: &Memory, from: usize, i: usize, row: &mut [u8], pen: Pen) -> Pen
+    requires { from + i < 2 ^ 64 }
     ensures { writing row.new result ≡ put (writing row.old pen) (nth_text (parts mem.now) from i) }
 {
     let v = stacked(mem, from + i);
@@ -62,8 +62,8 @@ fn write_nth(mem: &[u64], from: usize, i: usize, row: &mut [u8], pen: Pen) -> Pe
 }
 
 // Writes the texts of n values from cell `from` of the stack on, with blanks between them; stops where the row is full.
-fn write_values(mem: &[u64], from: usize, n: usize, row: &mut [u8], start: Pen) -> Pen
-    requires { (length mem.now ≡ 262144) × (from + n < 2 ^ 64) }
+fn write_values(mem: &Memory, from: usize, n: usize, row: &mut [u8], start: Pen) -> Pen
+    requires { from + n < 2 ^ 64 }
     ensures { writing row.new result ≡ put (writing row.old start) (joined (each as_text (worths (parts mem.now) from n))) }
 {
     let mut pen = start;
@@ -96,8 +96,8 @@ fn end_print(row: &mut [u8], start: Pen, pen: Pen) -> Printed
 }
 
 // A print of values into a whole row.
-fn row_of_values(mem: &[u64], from: usize, n: usize, row: &mut [u8], start: Pen) -> Printed
-    requires { (length mem.now ≡ 262144) × ((length row.old ≡ 4096) × ((from + n < 2 ^ 64) × (n < 2 ^ 32))) }
+fn row_of_values(mem: &Memory, from: usize, n: usize, row: &mut [u8], start: Pen) -> Printed
+    requires { (length row.old ≡ 4096) × ((from + n < 2 ^ 64) × (n < 2 ^ 32)) }
     ensures row { row.new ≡ over row.old start.at (drop start.skip (printed (worths (parts mem.now) from n))) }
     ensures came { result ≡ went (printed (worths (parts mem.now) from n)) start.skip start.at }
 {
@@ -106,8 +106,8 @@ fn row_of_values(mem: &[u64], from: usize, n: usize, row: &mut [u8], start: Pen)
 }
 
 // A print of the line into a whole row.
-fn row_of_line(mem: &[u64], place: Place, row: &mut [u8], start: Pen) -> Printed
-    requires { (length mem.now ≡ 262144) × (length row.old ≡ 4096) }
+fn row_of_line(mem: &Memory, place: Place, row: &mut [u8], start: Pen) -> Printed
+    requires { length row.old ≡ 4096 }
     ensures row { row.new ≡ over row.old start.at (drop start.skip (printed_line (parts mem.now) place)) }
     ensures came { result ≡ went (printed_line (parts mem.now) place) start.skip start.at }
 {
@@ -118,14 +118,14 @@ fn row_of_line(mem: &[u64], place: Place, row: &mut [u8], start: Pen) -> Printed
 // Writes the n topmost values of a stack of this depth, from byte `done` of the print on, as far as the row has room behind the bytes that are
 // used.
 pub fn print_values(
-    mem: &[u64],
+    mem: &Memory,
     depth: usize,
     n: usize,
     done: usize,
     out: &mut [u8],
     used: usize,
 ) -> Printed
-    requires { (length mem.now ≡ 262144) × ((4096 ≤ length out.old) × (n < 2 ^ 32)) }
+    requires { (4096 ≤ length out.old) × (n < 2 ^ 32) }
     ensures row { out.new ≡ over_row out.old used (drop done (printed (topmost (parts mem.now) depth n))) }
     ensures came { result ≡ went (printed (topmost (parts mem.now) depth n)) done used }
 {
@@ -137,8 +137,8 @@ pub fn print_values(
 }
 
 // Writes the line and byte 10, in the same way.
-pub fn print_line(mem: &[u64], place: Place, done: usize, out: &mut [u8], used: usize) -> Printed
-    requires { (length mem.now ≡ 262144) × (4096 ≤ length out.old) }
+pub fn print_line(mem: &Memory, place: Place, done: usize, out: &mut [u8], used: usize) -> Printed
+    requires { 4096 ≤ length out.old }
     ensures row { out.new ≡ over_row out.old used (drop done (printed_line (parts mem.now) place)) }
     ensures came { result ≡ went (printed_line (parts mem.now) place) done used }
 {

@@ -1,7 +1,7 @@
 -- Bytes that are copied into a row, one after the other.
-use Rattle.std.proofs.Common.{◌≡◌, ℕ, suc, ◌+◌, ◌/◌, ◌%◌, ◌≤◌, List, [], ◌∷◌, length, take, drop, set, sym, ap, ◌∙◌, arith, length-drop, take-add}
+use Rattle.std.proofs.Common.{◌≡◌, ℕ, ◌+◌, ◌/◌, ◌%◌, ◌≤◌, List, [], ◌∷◌, length, take, drop, sym, ap, ◌∙◌, arith, length-drop, take-add}
 use native.Mathlib.Nat.{div-div-eq-div-mul}
-use lib.Seq.{paste, sets-eq}
+use lib.Seq.{paste}
 use Rattle.std.proofs.lemmas.List.Edits.{paste-paste}
 use Rattle.std.proofs.lemmas.List.{take-take, length-take-le}
 use Rattle.store.specs.Words.{bytes_of}
@@ -28,16 +28,3 @@ pub eight_bytes : (w : ℕ) →
 unfolding bytes_of
 eight_bytes w =
     rw (div-div-eq-div-mul w 256 256, div-div-eq-div-mul w 65536 256, div-div-eq-div-mul w 16777216 256, div-div-eq-div-mul w 4294967296 256, div-div-eq-div-mul w 1099511627776 256, div-div-eq-div-mul w 281474976710656 256)
-
-pub eight_set : (d : List ℕ) (a p q r s t u v w : ℕ) → a + 8 ≤ length d →
-    set (set (set (set (set (set (set (set d a p) (a + 1) q) (a + 2) r) (a + 3) s) (a + 4) t) (a + 5) u) (a + 6) v) (a + 7) w
-    ≡ paste d a (p ∷ q ∷ r ∷ s ∷ t ∷ u ∷ v ∷ w ∷ []) 8
-eight_set d a p q r s t u v w h =
-    let e₁ : a + 1 ≡ suc a = omega arith in
-    let e₂ : a + 2 ≡ suc (suc a) = omega arith in
-    let e₃ : a + 3 ≡ suc (suc (suc a)) = omega arith in
-    let e₄ : a + 4 ≡ suc (suc (suc (suc a))) = omega arith in
-    let e₅ : a + 5 ≡ suc (suc (suc (suc (suc a)))) = omega arith in
-    let e₆ : a + 6 ≡ suc (suc (suc (suc (suc (suc a))))) = omega arith in
-    let e₇ : a + 7 ≡ suc (suc (suc (suc (suc (suc (suc a)))))) = omega arith in
-    rw (e₁, e₂, e₃, e₄, e₅, e₆, e₇) (sets-eq (p ∷ q ∷ r ∷ s ∷ t ∷ u ∷ v ∷ w ∷ []) d a h)

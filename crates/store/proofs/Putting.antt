@@ -202,6 +202,16 @@ eight_read xs k a b c d e f g h v l p₀ p₁ p₂ p₃ p₄ p₅ p₆ p₇ q₀
     let same : a ∷ b ∷ c ∷ d ∷ e ∷ f ∷ g ∷ h ∷ [] ≡ get_or xs k 0 ∷ get_or xs (k + 1) 0 ∷ get_or xs (k + 2) 0 ∷ get_or xs (k + 3) 0 ∷ get_or xs (k + 4) 0 ∷ get_or xs (k + 5) 0 ∷ get_or xs (k + 6) 0 ∷ get_or xs (k + 7) 0 ∷ [] = cc in
     ap (bytes_of 8) s ∙ word_of a b c d e f g h q₀ q₁ q₂ q₃ q₄ q₅ q₆ q₇ ∙ same ∙ eight xs k l
 
+-- the same, where they lie in a chunk
+pub chunk_read : (xs ys : List ℕ) (k v : ℕ) → ys ≡ take 8 (drop k xs) → k + 8 ≤ length xs → ((i : ℕ) → get_or xs i 0 < 256) →
+    v ≡ get_or ys 0 0 + get_or ys 1 0 * 256 + get_or ys 2 0 * 65536 + get_or ys 3 0 * 16777216 + get_or ys 4 0 * 4294967296 + get_or ys 5 0 * 1099511627776 + get_or ys 6 0 * 281474976710656 + get_or ys 7 0 * 72057594037927936 →
+    bytes_of 8 v ≡ take 8 (drop k xs)
+chunk_read xs ys k v e l f s =
+    let sum : List ℕ → ℕ = λ x. get_or x 0 0 + get_or x 1 0 * 256 + get_or x 2 0 * 65536 + get_or x 3 0 * 16777216 + get_or x 4 0 * 4294967296 + get_or x 5 0 * 1099511627776 + get_or x 6 0 * 281474976710656 + get_or x 7 0 * 72057594037927936 in
+    eight_read xs k (get_or xs k 0) (get_or xs (k + 1) 0) (get_or xs (k + 2) 0) (get_or xs (k + 3) 0) (get_or xs (k + 4) 0) (get_or xs (k + 5) 0) (get_or xs (k + 6) 0) (get_or xs (k + 7) 0) v l
+    refl refl refl refl refl refl refl refl (f k) (f (k + 1)) (f (k + 2)) (f (k + 3)) (f (k + 4)) (f (k + 5)) (f (k + 6)) (f (k + 7))
+    (s ∙ ap sum (e ∙ sym (eight xs k l)))
+
 -- words that are put where a byte's place is whole, or none
 pub words_placed : (us vs : List ℕ) (at q k : ℕ) (bs : List ℕ) → vs ≡ put_bytes us (8 * q) (take (8 * k) bs) → (0 < k → 8 * q ≡ at) → vs ≡ put_bytes us at (take (8 * k) bs)
 words_placed us vs at q k bs e f =

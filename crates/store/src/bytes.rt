@@ -1,5 +1,6 @@
 // A text as a list of bytes, whatever holds it.
 ghost use Rattle.std.specs.Prelude.{◌≡◌, ℕ, ◌+◌, ◌^◌, ◌<◌, ◌≤◌, List, length, take, drop, slice_index};
+ghost use Rattle.language.specs.Text.{blank};
 ghost use Rattle.store.specs.Words.{bytes_of};
 
 pub trait Bytes {
@@ -29,4 +30,11 @@ pub trait Bytes {
             self.at(i + 7),
         ])
     }
+}
+
+// Whether a byte is a blank or a tab.
+pub fn is_blank(b: u8) -> bool
+    ensures { result ≡ blank b }
+{
+    matches!(b, b' ' | b'\t')
 }

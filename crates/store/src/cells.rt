@@ -2,12 +2,12 @@
 ghost use Rattle.std.specs.Prelude.{◌≡◌, ℕ, ◌+◌, ◌*◌, ◌<◌, ◌≤◌, length, slice_index_or, slice_set};
 ghost use Rattle.store.specs.declared.cells.Value.TheVariants.{Unset};
 ghost use Rattle.store.specs.Space.{region};
-ghost use Rattle.store.specs.Short.{Read, short_of};
 ghost use Rattle.store.specs.Values.{decode, decoded, saved, kind_of, payload_of, kept, let_go, Made, made};
 ghost use Rattle.store.specs.Worth.{ValueLaws, MakesByWords};
 
 use crate::bytes::Bytes;
-use crate::short::{Short, low_bytes};
+use crate::copying::short_of;
+use crate::short::{LONGEST, Short, low_bytes};
 use crate::texts::{Handle, allocate, fill, hold, release};
 
 // A value: nothing was set; a number; a text of up to eight bytes; a longer text.
@@ -102,9 +102,8 @@ pub fn keep(texts: &mut [u64], v: Value)
     requires { length texts.old ≡ 98304 }
     ensures { region texts.new ≡ kept 77822 (region texts.old) v }
 {
-    match v {
-        Value::Text(handle) => hold(texts, handle),
-        _ => {}
+    if let Value::Text(handle) = v {
+        hold(texts, handle);
     }
 }
 
@@ -113,37 +112,8 @@ pub fn drop_value(texts: &mut [u64], v: Value)
     requires { length texts.old ≡ 98304 }
     ensures { region texts.new ≡ let_go 20480 77822 (region texts.old) v }
 {
-    match v {
-        Value::Text(handle) => release(texts, handle),
-        _ => {}
-    }
-}
-
-// Up to eight bytes as a word.
-fn first_word<T: Bytes>(t: &T) -> u64
-    requires { length (T.Bytes.bytes t.now) ≤ 8 }
-    ensures { Read (T.Bytes.bytes t.now) result }
-{
-    u64::from_le_bytes([
-        t.at(0),
-        t.at(1),
-        t.at(2),
-        t.at(3),
-        t.at(4),
-        t.at(5),
-        t.at(6),
-        t.at(7),
-    ])
-}
-
-// The short text of up to eight bytes.
-fn short_of<T: Bytes>(t: &T) -> Short
-    requires { length (T.Bytes.bytes t.now) ≤ 8 }
-    ensures { result ≡ short_of (T.Bytes.bytes t.now) }
-{
-    Short {
-        word: first_word(t),
-        len: t.len(),
+    if let Value::Text(handle) = v {
+        release(texts, handle);
     }
 }
 
@@ -153,16 +123,12 @@ pub fn new_text<T: Bytes>(texts: &mut [u64], t: &T) -> Option<Value>
     ensures { ◌≡◌ {A = Made} (record { space = region texts.new; value = result }) (made 20480 77822 (region texts.old) (T.Bytes.bytes t.now)) }
 {
     let n = t.len();
-    if n <= 8 {
+    if n <= LONGEST {
         return Some(Value::Short(short_of(t)));
     }
-    match allocate(texts, n) {
-        Some(handle) => {
-            fill(texts, handle, 0, t);
-            Some(Value::Text(handle))
-        }
-        None => None,
-    }
+    let handle = allocate(texts, n)?;
+    fill(texts, handle, 0, t);
+    Some(Value::Text(handle))
 }
 
 // Room for a new value, in words of the texts that are held.

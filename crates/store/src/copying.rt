@@ -1,25 +1,11 @@
 // Copies of texts.
-ghost use Rattle.std.specs.Prelude.{◌≡◌, ℕ, ◌+◌, ◌-◌, ◌*◌, ◌^◌, ◌<◌, ◌≤◌, min, length, drop};
+ghost use Rattle.std.specs.Prelude.{◌≡◌, ℕ, ◌+◌, ◌-◌, ◌*◌, ◌^◌, ◌<◌, ◌≤◌, min, length, take, drop};
 ghost use Rattle.std.proofs.Math.Seq.{paste};
 ghost use Rattle.store.specs.Words.{bytes_of, over};
+ghost use Rattle.store.specs.Short.{Read, short_of};
 
 use crate::bytes::Bytes;
-
-// The eight bytes of a word, the lowest first, from `at` on.
-fn put_eight(out: &mut [u8], at: usize, word: u64)
-    requires { at + 8 ≤ length out.old }
-    ensures { out.new ≡ paste out.old at (bytes_of 8 word) 8 }
-{
-    let bytes = word.to_le_bytes();
-    out[at] = bytes[0];
-    out[at + 1] = bytes[1];
-    out[at + 2] = bytes[2];
-    out[at + 3] = bytes[3];
-    out[at + 4] = bytes[4];
-    out[at + 5] = bytes[5];
-    out[at + 6] = bytes[6];
-    out[at + 7] = bytes[7];
-}
+use crate::short::{LONGEST, Short};
 
 // Copies n words of bytes of t, from byte `from` of it on.
 fn words_out<T: Bytes>(t: &T, from: usize, n: usize, out: &mut [u8], at: usize)
@@ -27,7 +13,8 @@ fn words_out<T: Bytes>(t: &T, from: usize, n: usize, out: &mut [u8], at: usize)
     ensures { out.new ≡ paste out.old at (drop from (T.Bytes.bytes t.now)) (8 * n) }
 {
     for i in 0..n {
-        put_eight(out, at + 8 * i, t.word(from + 8 * i));
+        let place = at + 8 * i;
+        out[place..place + 8].copy_from_slice(&t.word(from + 8 * i).to_le_bytes());
     }
 }
 
@@ -55,4 +42,24 @@ pub fn copy_out<T: Bytes>(t: &T, from: usize, out: &mut [u8], at: usize) -> usiz
         bytes_out(t, from + whole, n - whole, out, at + whole);
     }
     n
+}
+
+// Eight bytes as a word.
+fn word_of(bytes: &[u8; LONGEST]) -> u64
+    ensures { Read bytes.now result }
+{
+    u64::from_le_bytes(*bytes)
+}
+
+// The first eight bytes of a text, or all of them where it has no more.
+pub fn short_of<T: Bytes>(t: &T) -> Short
+    ensures short { result ≡ short_of (T.Bytes.bytes t.now) }
+    ensures bytes { bytes_of result.len result.word ≡ take LONGEST (T.Bytes.bytes t.now) }
+{
+    let mut bytes = [0u8; LONGEST];
+    let len = copy_out(t, 0, &mut bytes, 0);
+    Short {
+        word: word_of(&bytes),
+        len,
+    }
 }

@@ -14,16 +14,7 @@ fn eight(piece: &[u8], i: usize) -> u64
     requires { i + 8 ≤ length piece.now }
     ensures { bytes_of 8 result ≡ take 8 (drop i piece.now) }
 {
-    u64::from_le_bytes([
-        piece[i],
-        piece[i + 1],
-        piece[i + 2],
-        piece[i + 3],
-        piece[i + 4],
-        piece[i + 5],
-        piece[i + 6],
-        piece[i + 7],
-    ])
+    u64::from_le_bytes(*piece[i..].first_chunk().unwrap())
 }
 
 impl Bytes for Lent<'_> {

@@ -7,6 +7,7 @@ pub mod copying;
 pub mod decimal;
 pub mod lent;
 pub mod packed;
+pub mod place;
 pub mod short;
 pub mod texts;
 pub mod writing;

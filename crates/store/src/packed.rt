@@ -15,7 +15,6 @@ pub struct Packed<'a> {
 
 // The len bytes from byte `from` on; fewer where the words end.
 pub fn window_of(words: &[u64], from: usize, len: usize) -> Packed<'_>
-    requires { length words.now < 2 ^ 60 }
     ensures { window result.from result.len result.words.now ≡ window from len words.now }
 {
     let end = 8 * words.len();

@@ -4,6 +4,9 @@ ghost use Rattle.store.specs.Words.{bytes_of};
 
 use crate::bytes::Bytes;
 
+// How many bytes a short text has at most.
+pub const LONGEST: usize = 8;
+
 // The bytes behind the last are 0, so that equal texts are equal words.
 #[derive(Clone, Copy)]
 pub struct Short {

@@ -21,7 +21,7 @@ pub fn set_byte(words: &mut [u64], i: usize, b: u8)
 
 // Puts n bytes of t, from byte `from` of it on, one by one.
 fn put_bytes<T: Bytes>(t: &T, from: usize, n: usize, words: &mut [u64], to: usize)
-    requires { (from + n ≤ length (T.Bytes.bytes t.now)) × ((from + n < 2 ^ 64) × ((to + n ≤ 8 * length words.old) × (length words.old < 2 ^ 60))) }
+    requires { (from + n ≤ length (T.Bytes.bytes t.now)) × ((from + n < 2 ^ 64) × (to + n ≤ 8 * length words.old)) }
     ensures { words.new ≡ put_bytes words.old to (take n (drop from (T.Bytes.bytes t.now))) }
 {
     for i in 0..n {
@@ -31,7 +31,7 @@ fn put_bytes<T: Bytes>(t: &T, from: usize, n: usize, words: &mut [u64], to: usiz
 
 // Puts n words of bytes of t, from byte `from` of it on, into the words from q on.
 fn put_words<T: Bytes>(t: &T, from: usize, n: usize, words: &mut [u64], q: usize)
-    requires { (from + 8 * n ≤ length (T.Bytes.bytes t.now)) × ((from + 8 * n < 2 ^ 64) × ((q + n ≤ length words.old) × (length words.old < 2 ^ 60))) }
+    requires { (from + 8 * n ≤ length (T.Bytes.bytes t.now)) × ((from + 8 * n < 2 ^ 64) × (q + n ≤ length words.old)) }
     ensures { words.new ≡ put_bytes words.old (8 * q) (take (8 * n) (drop from (T.Bytes.bytes t.now))) }
 {
     for i in 0..n {
@@ -41,7 +41,6 @@ fn put_words<T: Bytes>(t: &T, from: usize, n: usize, words: &mut [u64], q: usize
 
 // Puts the bytes of t from byte `to` on, as many as there is room for: whole words at once, and what is before and behind them one by one.
 pub fn copy_in<T: Bytes>(t: &T, words: &mut [u64], to: usize)
-    requires { length words.old < 2 ^ 60 }
     ensures { words.new ≡ put_bytes words.old to (T.Bytes.bytes t.now) }
 {
     let room = (8 * words.len()).saturating_sub(to);
@@ -58,7 +57,6 @@ pub fn copy_in<T: Bytes>(t: &T, words: &mut [u64], to: usize)
 
 // Puts the bytes of a piece, in the same way.
 pub fn copy_piece(piece: &[u8], words: &mut [u64], to: usize)
-    requires { length words.old < 2 ^ 60 }
     ensures { words.new ≡ put_bytes words.old to piece.now }
 {
     copy_in(&Lent { piece }, words, to);
@@ -66,7 +64,7 @@ pub fn copy_piece(piece: &[u8], words: &mut [u64], to: usize)
 
 // Moves n bytes one by one, the first first.
 fn move_some(words: &mut [u64], from: usize, to: usize, n: usize)
-    requires inside { (from + n ≤ 8 * length words.old) × ((to + n ≤ 8 * length words.old) × (length words.old < 2 ^ 60)) }
+    requires inside { (from + n ≤ 8 * length words.old) × (to + n ≤ 8 * length words.old) }
     requires apart { (to ≤ from) ⊎ (from + n ≤ to) }
     ensures { words.new ≡ put_bytes words.old to (window from n words.old) }
 {
@@ -78,7 +76,7 @@ fn move_some(words: &mut [u64], from: usize, to: usize, n: usize)
 
 // Moves the bytes of n words, to the words from q on, the first first.
 fn move_words(words: &mut [u64], from: usize, q: usize, n: usize)
-    requires inside { (from + 8 * n ≤ 8 * length words.old) × ((q + n ≤ length words.old) × (length words.old < 2 ^ 60)) }
+    requires inside { (from + 8 * n ≤ 8 * length words.old) × (q + n ≤ length words.old) }
     requires apart { (8 * q ≤ from) ⊎ (from + 8 * n ≤ 8 * q) }
     ensures { words.new ≡ put_bytes words.old (8 * q) (window from (8 * n) words.old) }
 {
@@ -89,7 +87,7 @@ fn move_words(words: &mut [u64], from: usize, q: usize, n: usize)
 
 // Moves n bytes one by one, the last first.
 fn move_up(words: &mut [u64], from: usize, to: usize, n: usize)
-    requires { (from ≤ to) × ((to + n ≤ 8 * length words.old) × (length words.old < 2 ^ 60)) }
+    requires { (from ≤ to) × (to + n ≤ 8 * length words.old) }
     ensures { words.new ≡ put_bytes words.old to (window from n words.old) }
 {
     for i in (0..n).rev() {
@@ -100,7 +98,7 @@ fn move_up(words: &mut [u64], from: usize, to: usize, n: usize)
 
 // Moves n bytes, whole words at once, the first first.
 fn move_down(words: &mut [u64], from: usize, to: usize, n: usize)
-    requires inside { (from + n ≤ 8 * length words.old) × ((to + n ≤ 8 * length words.old) × (length words.old < 2 ^ 60)) }
+    requires inside { (from + n ≤ 8 * length words.old) × (to + n ≤ 8 * length words.old) }
     requires apart { (to ≤ from) ⊎ (from + n ≤ to) }
     ensures { words.new ≡ put_bytes words.old to (window from n words.old) }
 {
@@ -114,7 +112,7 @@ fn move_down(words: &mut [u64], from: usize, to: usize, n: usize)
 
 // Moves n bytes from byte `from` on to where byte `to` is; the two places may overlap.
 pub fn move_bytes(words: &mut [u64], from: usize, to: usize, n: usize)
-    requires { (from + n ≤ 8 * length words.old) × ((to + n ≤ 8 * length words.old) × (length words.old < 2 ^ 60)) }
+    requires { (from + n ≤ 8 * length words.old) × (to + n ≤ 8 * length words.old) }
     ensures { words.new ≡ put_bytes words.old to (window from n words.old) }
 {
     if to <= from {
@@ -128,7 +126,6 @@ pub fn move_bytes(words: &mut [u64], from: usize, to: usize, n: usize)
 
 // Moves n bytes from byte `from` on to the beginning; fewer where the words end.
 pub fn shift_down(words: &mut [u64], from: usize, n: usize)
-    requires { length words.old < 2 ^ 60 }
     ensures { words.new ≡ put_bytes words.old 0 (window from n words.old) }
 {
     let end = 8 * words.len();

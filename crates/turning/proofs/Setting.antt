@@ -26,7 +26,7 @@ use Rattle.lines.proofs.Cuts.{recut_words, length_noted}
 use Rattle.lines.proofs.Passing.{window_length}
 use Rattle.lines.proofs.Pieces.{buffer_below}
 use Rattle.lines.proofs.Laying.{build_says, line_right}
-use Rattle.interp.specs.declared.Turn.TheVariants.{Refuse}
+use Rattle.interp.specs.Outcomes.{Refuse}
 use Rattle.interp.specs.declared.registers.Registers.{Registers}
 use Rattle.interp.specs.Turns.{Did, says, dropped}
 use Rattle.representation.specs.Relation.{LineSo, Running}

@@ -1,11 +1,11 @@
 -- The fields of a text, and where they stand.
-use Rattle.std.proofs.Common.{◌≡◌, ℕ, suc, ◌+◌, ◌-◌, ◌<◌, ◌≤◌, Bool, true, false, not, ◌⊎◌, List, [], ◌∷◌, ◌++◌, length, take, drop, ℤ, pos, negsuc, nat_abs, sym, refl, ap, ◌∙◌, inl, inr, append_assoc, append-nil, arith, length-drop}
-use lib.Signed.{lt_z}
-use Rattle.std.proofs.lemmas.Bool.{le-leb, lt-leb, ltb-true, ltb-false, true≢false}
+use Rattle.std.proofs.Common.{◌≡◌, ℕ, suc, ◌+◌, ◌-◌, ◌<◌, ◌≤◌, Bool, true, false, not, ◌⊎◌, List, [], ◌∷◌, ◌++◌, length, take, drop, ℤ, pos, negsuc, nat_abs, ◌≤ℤ◌, sym, refl, ap, ◌∙◌, inl, inr, append_assoc, append-nil, arith, length-drop}
+use Rattle.std.proofs.lemmas.Int.{ints}
+use Rattle.std.proofs.lemmas.Bool.{le-leb, lt-leb}
 use Rattle.std.proofs.lemmas.List.{drop-drop}
 use Rattle.language.specs.Text.{pick, blank, no_blanks, fields_from, each}
 use Rattle.language.specs.Meaning.{field_number}
-use Rattle.values.specs.declared.fields.Place.{Place}
+use Rattle.store.specs.declared.place.Place.{Place}
 use Rattle.store.specs.Numbers.{number}
 use Rattle.values.specs.Texts.{run}
 use Rattle.values.specs.Fields.{cut, FieldAt, PlacesTold, FieldsTold}
@@ -91,13 +91,13 @@ fields_told bs ps h = told bs ps 0 h
 
 -- numbers of fields
 
-pub field_number_not : (z : ℤ) → (lt_z z (pos 0) ≡ true) ⊎ (lt_z (pos 1000) z ≡ true) → [] ≡ field_number (number z)
+pub field_number_not : (z : ℤ) → (z ≤ℤ negsuc 0) ⊎ (pos 1001 ≤ℤ z) → [] ≡ field_number (number z)
 unfolding field_number
-field_number_not (pos n) (inl h) = absurd (omega (arith, ltb-true n 0 h))
-field_number_not (pos n) (inr h) = rw (lt-leb n 1000 (ltb-true 1000 n h))
+field_number_not (pos n) (inl h) = absurd (omega (arith, ints))
+field_number_not (pos n) (inr h) = rw (lt-leb n 1000 (omega (arith, ints)))
 field_number_not (negsuc n) h = refl
 
-pub field_number_so : (z : ℤ) → lt_z z (pos 0) ≡ false → lt_z (pos 1000) z ≡ false → nat_abs z ∷ [] ≡ field_number (number z)
+pub field_number_so : (z : ℤ) → pos 0 ≤ℤ z → z ≤ℤ pos 1000 → nat_abs z ∷ [] ≡ field_number (number z)
 unfolding field_number
-field_number_so (pos n) h k = rw (le-leb n 1000 (ltb-false 1000 n k))
-field_number_so (negsuc n) h k = absurd (true≢false h)
+field_number_so (pos n) h k = rw (le-leb n 1000 (omega (arith, ints)))
+field_number_so (negsuc n) h k = absurd (omega (arith, ints))

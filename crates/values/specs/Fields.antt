@@ -1,6 +1,6 @@
 -- Places in a text, and the fields that stand there.
 use Rattle.std.specs.Prelude.{◌≡◌, ℕ, ◌+◌, ◌<◌, ◌≤◌, List, [], ◌∷◌, length, take, drop, Some, None, Option}
-use Rattle.values.specs.declared.fields.Place.{Place}
+use Rattle.store.specs.declared.place.Place.{Place}
 use Rattle.language.specs.Text.{each, fields_from}
 use Rattle.language.specs.Meaning.{State, Went, stopped, wrong}
 

@@ -151,12 +151,8 @@ pub fn plain_number(v: Value) -> Option<i64>
 {
     match v {
         Value::Number(n) => Some(n),
-        Value::Short(short) => match plain_digits(&short) {
-            Some(n) => Some(n as i64),
-            None => None,
-        },
-        Value::Unset => None,
-        Value::Text(_) => None,
+        Value::Short(short) => Some(plain_digits(&short)? as i64),
+        _ => None,
     }
 }
 

@@ -1,11 +1,12 @@
 // Where the fields of a text stand, and which numbers are those of fields and exits.
-ghost use Rattle.std.specs.Prelude.{◌≡◌};
+ghost use Rattle.std.specs.Prelude.{◌≡◌, ◌+◌, ◌^◌, ◌<◌, IfSome};
 ghost use Rattle.language.specs.Meaning.{State, field_number, exit_with};
 ghost use Rattle.store.specs.Numbers.{number};
 ghost use Rattle.values.specs.Fields.{NextField, FieldsTold, listed, exited};
 
 use crate::texts::{Blank, Solid, past};
 use store::bytes::Bytes;
+pub use store::place::Place;
 
 // The numbers of fields go from 0, which is the whole line, to this one.
 const LAST_FIELD: i64 = 1000;
@@ -13,16 +14,10 @@ const LAST_FIELD: i64 = 1000;
 // The numbers that a run may end with go from 0 to this one.
 const LAST_EXIT: i64 = 255;
 
-// A part of a text.
-#[derive(Clone, Copy)]
-pub struct Place {
-    pub start: usize,
-    pub len: usize,
-}
-
 // The first field that begins at `from` or behind it.
 pub fn next_field<T: Bytes>(t: &T, from: usize) -> Option<Place>
-    ensures { NextField (T.Bytes.bytes t.now) from result }
+    ensures next { NextField (T.Bytes.bytes t.now) from result }
+    ensures ends { IfSome result (λ p. p.start + p.len < 2 ^ 64) }
 {
     let start = past::<Blank, T>(t, from);
     let end = past::<Solid, T>(t, start);
@@ -45,12 +40,9 @@ pub fn fields_stand()
 pub fn field_number(n: i64) -> Option<usize>
     ensures { listed result ≡ field_number (number n) }
 {
-    if n < 0 {
-        None
-    } else if n > LAST_FIELD {
-        None
-    } else {
-        Some(n as usize)
+    match n {
+        0..=LAST_FIELD => Some(n as usize),
+        _ => None,
     }
 }
 
@@ -58,11 +50,8 @@ pub fn field_number(n: i64) -> Option<usize>
 pub fn exit_number(n: i64) -> Option<u64>
     ensures { (s : State) → exited result s ≡ exit_with (number n) s }
 {
-    if n < 0 {
-        None
-    } else if n > LAST_EXIT {
-        None
-    } else {
-        Some(n as u64)
+    match n {
+        0..=LAST_EXIT => Some(n as u64),
+        _ => None,
     }
 }

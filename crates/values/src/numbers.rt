@@ -30,12 +30,9 @@ pub enum Arithmetic {
 fn in_bounds(z: i128) -> Option<i64>
     ensures { judged result ≡ within (number z) }
 {
-    if z < LEAST {
-        None
-    } else if z > MOST {
-        None
-    } else {
-        Some(z as i64)
+    match z {
+        LEAST..=MOST => Some(z as i64),
+        _ => None,
     }
 }
 

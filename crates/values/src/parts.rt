@@ -45,10 +45,7 @@ pub fn place_of<A: Bytes, B: Bytes>(a: &A, b: &B) -> usize
 pub fn capital(b: u8) -> u8
     ensures { result ≡ capital b }
 {
-    match b {
-        b'a'..=b'z' => b - 32,
-        _ => b,
-    }
+    b.to_ascii_uppercase()
 }
 
 // Where `count` bytes from the position `from` on stand, counted from 1, in a text of so many bytes; positions before the first have no bytes.

@@ -5,6 +5,7 @@ ghost use Rattle.store.specs.Numbers.{number};
 ghost use Rattle.values.specs.Texts.{run, Runs, dash, plain};
 
 use store::bytes::Bytes;
+pub use store::bytes::is_blank;
 
 // Of more digits than these the first ones count.
 const DIGITS: usize = 18;
@@ -29,16 +30,10 @@ pub struct Digit;
 #[derive(Drop)]
 pub struct Solid;
 
-pub fn is_blank(b: u8) -> bool
-    ensures { result ≡ blank b }
-{
-    b == b' ' || b == b'\t'
-}
-
 pub fn is_digit(b: u8) -> bool
     ensures { result ≡ digit b }
 {
-    b >= b'0' && b <= b'9'
+    b.is_ascii_digit()
 }
 
 impl Kind for Blank {
@@ -69,12 +64,13 @@ impl Kind for Solid {
 pub fn past<K: Kind, T: Bytes>(t: &T, from: usize) -> usize
     ensures { result ≡ from + run K.Kind.test (drop from (T.Bytes.bytes t.now)) }
 {
-    let len = t.len();
-    let mut i = from;
-    while i < len && K::has(t.at(i)) {
-        i += 1;
+    let end = t.len().max(from);
+    for i in from..end {
+        if !K::has(t.at(i)) {
+            return i;
+        }
     }
-    i
+    end
 }
 
 // A run is as long as it can be.

@@ -1,4 +1,4 @@
-use Rattle.std.proofs.Common.{◌≡◌, ◌-◌, ◌≤◌, take}
+use Rattle.std.proofs.Common.{◌≡◌, take}
 use Rattle.store.specs.Words.{put_bytes}
 use Rattle.store.specs.Space.{text_of}
 use Rattle.regions.specs.Parts.{parts, with_lines}
@@ -7,8 +7,4 @@ use Rattle.engine.proofs.setting.lay_text.Given as goal
 -- so many bytes are there
 abbrev pub invariant-loop-at : goal.invariant-loop-at
 invariant-loop-at l =
-    (parts l.mem ≡ with_lines (parts l.initial.mem) (put_bytes (parts l.initial.mem).lines l.to (take l.at (text_of 77822 (parts l.initial.mem).texts l.h.index))))
-    × (l.at ≤ l.n)
-
-abbrev pub decreases-loop-at : goal.decreases-loop-at
-decreases-loop-at l = l.n - l.at
+    parts l.mem ≡ with_lines (parts l.initial.mem) (put_bytes (parts l.initial.mem).lines l.to (take l.at (text_of 77822 (parts l.initial.mem).texts l.h.index)))

@@ -13,7 +13,7 @@ unfolding line_set
 returns-then-fields_in-gt-FIELDS c = search rules
 
 pub lay_value-requires : goal.lay_value-requires
-lay_value-requires c = (c.requires, omega (arith, buffer_near c.args.regs.now.line, c.free_buffer.ensures))
+lay_value-requires c = omega (arith, buffer_near c.args.regs.now.line, c.free_buffer.ensures)
 
 pub returns : goal.returns
 unfolding line_set with_text after_line line_of

@@ -6,18 +6,18 @@ pub returns-then-used-gt0 : goal.returns-then-used-gt0
 unfolding answer_of
 returns-then-used-gt0 c = search rules
 
-pub returns-in-On : goal.returns-in-On
+pub returns-in-Ok-On : goal.returns-in-Ok-On
 unfolding answer_of
-returns-in-On c = search rules
+returns-in-Ok-On c = search rules
 
-pub returns-in-Ask : goal.returns-in-Ask
+pub returns-in-Ok-Ask : goal.returns-in-Ok-Ask
 unfolding answer_of
-returns-in-Ask c = search rules
+returns-in-Ok-Ask c = search rules
 
-pub returns-in-Done : goal.returns-in-Done
+pub returns-in-Ok-Done : goal.returns-in-Ok-Done
 unfolding answer_of
-returns-in-Done c = search rules
+returns-in-Ok-Done c = search rules
 
-pub returns-in-Refuse : goal.returns-in-Refuse
+pub returns-in-Err : goal.returns-in-Err
 unfolding answer_of
-returns-in-Refuse c = search rules
+returns-in-Err c = search rules

@@ -2,14 +2,14 @@ use Rattle.std.proofs.Common.{rules}
 use Rattle.interp.specs.Between.{line_sought}
 use Rattle.interp.proofs.between.seek_line.Goals as goal
 
-pub returns-in-Whole : goal.returns-in-Whole
+pub returns-in-Some : goal.returns-in-Some
 unfolding line_sought
-returns-in-Whole c = search rules
+returns-in-Some c = search rules
 
-pub returns-then-input : goal.returns-then-input
+pub returns-in-None : goal.returns-in-None
 unfolding line_sought
-returns-then-input c = search rules
+returns-in-None c = search rules
 
-pub returns-else-input : goal.returns-else-input
+pub returns-in-None-2 : goal.returns-in-None-2
 unfolding line_sought
-returns-else-input c = search rules
+returns-in-None-2 c = search rules

@@ -1,4 +1,4 @@
-use Rattle.std.proofs.Common.{◌≡◌, ◌-◌, ◌≤◌, take}
+use Rattle.std.proofs.Common.{◌≡◌, take}
 use Rattle.store.specs.Words.{window}
 use Rattle.store.specs.Space.{written}
 use Rattle.regions.specs.Parts.{parts, with_texts}
@@ -7,8 +7,4 @@ use Rattle.interp.proofs.fields.copy_line.Given as goal
 -- so many bytes are copied
 abbrev pub invariant-loop-at : goal.invariant-loop-at
 invariant-loop-at l =
-    (parts l.mem ≡ with_texts (parts l.initial.mem) (written 77822 (parts l.initial.mem).texts l.h.index 0 (take l.at (window l.place.start l.place.len (parts l.initial.mem).lines))))
-    × (l.at ≤ l.n)
-
-abbrev pub decreases-loop-at : goal.decreases-loop-at
-decreases-loop-at l = l.n - l.at
+    parts l.mem ≡ with_texts (parts l.initial.mem) (written 77822 (parts l.initial.mem).texts l.h.index 0 (take l.at (window l.place.start l.place.len (parts l.initial.mem).lines)))

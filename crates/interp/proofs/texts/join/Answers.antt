@@ -19,8 +19,8 @@ returns-then-size-gt-LONGEST c =
     })
     c.if-size-gt-LONGEST.true
 
-pub returns-then-size-gt-SHORTEST : goal.returns-then-size-gt-SHORTEST
-returns-then-size-gt-SHORTEST c =
+pub returns-then-size-gt-LONGEST-2 : goal.returns-then-size-gt-LONGEST-2
+returns-then-size-gt-LONGEST-2 c =
     c.join_long.ensures
     ∙ joined_wide (parts c.args.mem.now) c.args.regs.now c.under-first.result c.top-second.result _ _ _
     (record {
@@ -30,7 +30,7 @@ returns-then-size-gt-SHORTEST c =
       right = c.text_len.ensures;
       both = c.saturating_add-size.ensures;
     })
-    c.if-size-gt-LONGEST.false c.if-size-gt-SHORTEST.true
+    c.if-size-gt-LONGEST.false c.if-size-gt-LONGEST-2.true
 
 pub join_shorts-short-requires : goal.join_shorts-short-requires
 join_shorts-short-requires c =
@@ -38,7 +38,7 @@ join_shorts-short-requires c =
     let b = ap length c.as_short-2.ensures in
     let m = length_bytes c.as_short.result.len c.as_short.result.word in
     let n = length_bytes c.as_short-2.result.len c.as_short-2.result.word in
-    omega (arith, a, b, m, n, c.text_len-m.ensures, c.text_len.ensures, c.saturating_add-size.ensures, c.if-size-gt-SHORTEST.false)
+    omega (arith, a, b, m, n, c.text_len-m.ensures, c.text_len.ensures, c.saturating_add-size.ensures, c.if-size-gt-LONGEST-2.false)
 
 pub returns : goal.returns
 returns c =
@@ -52,7 +52,7 @@ returns c =
       right = c.text_len.ensures;
       both = c.saturating_add-size.ensures;
     })
-    c.if-size-gt-SHORTEST.false
+    c.if-size-gt-LONGEST-2.false
     (c.join_shorts-short.ensures
     ∙ ap (λ x. x ++ bytes_of c.as_short-2.result.len c.as_short-2.result.word) c.as_short.ensures
     ∙ ap (λ x. text_in (parts c.args.mem.now) c.under-first.result ++ x) c.as_short-2.ensures)

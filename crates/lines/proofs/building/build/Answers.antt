@@ -11,20 +11,20 @@ pub lay_all-requires : goal.lay_all-requires
 lay_all-requires c =
     let ws : List ℕ = (parts c.args.mem.now).fields in
     let t : ℕ = total (pieces ws c.args.line c.args.n c.args.len c.max-fields.result 0) in
-    (c.requires, leb-true t 65536 (some_then (leb t 65536) t c.in-Some.bytes (sym c.total_len.ensures ∙ c.in-Some.is)).0)
+    leb-true t 65536 (some_then (leb t 65536) t c.in_ok-bytes.bytes (sym c.total_len.ensures ∙ c.in_ok-bytes.was)).0
 
-pub returns-in_default : goal.returns-in_default
+pub returns-in_err-bytes : goal.returns-in_err-bytes
 unfolding built after_built
-returns-in_default c =
+returns-in_err-bytes c =
     let p : Parts = parts c.args.mem.now in
     let l = c.args.line in
     let e = c.max-fields.ensures in
     let t : ℕ = total (pieces p.fields l c.args.n c.args.len c.max-fields.result 0) in
     let u : ℕ = total (all_pieces p.fields l c.args.n c.args.len) in
-    let f : leb u 65536 ≡ false = ap (λ m. leb (total (pieces p.fields l c.args.n c.args.len m 0)) 65536) (sym e) ∙ none_then (leb t 65536) t (sym c.total_len.ensures ∙ c.in_default.is) in
+    let f : leb u 65536 ≡ false = ap (λ m. leb (total (pieces p.fields l c.args.n c.args.len m 0)) 65536) (sym e) ∙ none_then (leb t 65536) t (sym c.total_len.ensures ∙ c.in_err-bytes.was) in
     record {
       laid = ap (λ b. pick b (laid p (buffer_of l) 0 0 (all_pieces p.fields l c.args.n c.args.len)) p) (sym f);
-      line = ap (λ b. pick b (Some (line_at (buffer_of l) (u - 1) (max l.fields c.args.n))) None) (sym f);
+      line = c.from_residual.ensures ∙ ap (λ b. pick b (Some (line_at (buffer_of l) (u - 1) (max l.fields c.args.n))) None) (sym f);
     }
 
 pub returns : goal.returns
@@ -36,7 +36,7 @@ returns c =
     let t : ℕ = total (pieces p.fields l c.args.n c.args.len c.max-fields.result 0) in
     let u : ℕ = total (all_pieces p.fields l c.args.n c.args.len) in
     let same : t ≡ u = ap (λ m. total (pieces p.fields l c.args.n c.args.len m 0)) e in
-    let s = some_then (leb t 65536) t c.in-Some.bytes (sym c.total_len.ensures ∙ c.in-Some.is) in
+    let s = some_then (leb t 65536) t c.in_ok-bytes.bytes (sym c.total_len.ensures ∙ c.in_ok-bytes.was) in
     let f : leb u 65536 ≡ true = ap (λ x. leb x 65536) (sym same) ∙ s.0 in
     let n : c.saturating_sub.result ≡ u - 1 = c.saturating_sub.ensures ∙ ap (λ x. x - 1) (sym s.1 ∙ same) in
     record {

@@ -9,12 +9,9 @@ use Rattle.lines.proofs.building.lay_all.Goals as goal
 
 pub lay-requires : goal.lay-requires
 lay-requires c = (
-  omega arith,
-  (
-    omega (arith, c.free_buffer-start.ensures, buffer_below c.args.line),
-    room_left (parts c.args.mem.now).fields (parts c.loop-i.mem).fields c.args.line c.args.n c.args.len c.args.count c.loop-i.i c.loop-i.at c.piece_for-p.result (omega arith) c.piece_for-p.ensures
-        (c.loop-i.invariant.2 c.loop-i.i (omega arith)) c.loop-i.invariant.1 c.requires.1,
-  ),
+  omega (arith, c.free_buffer-start.ensures, buffer_below c.args.line),
+  room_left (parts c.args.mem.now).fields (parts c.loop-i.mem).fields c.args.line c.args.n c.args.len c.args.count c.loop-i.i c.loop-i.at c.piece_for-p.result (omega arith) c.piece_for-p.ensures
+      (c.loop-i.invariant.2 c.loop-i.i (omega arith)) c.loop-i.invariant.1 c.requires,
 )
 
 pub overflow_add-at : goal.overflow_add-at
@@ -22,7 +19,7 @@ overflow_add-at c =
     omega (
       arith,
       room_left (parts c.args.mem.now).fields (parts c.loop-i.mem).fields c.args.line c.args.n c.args.len c.args.count c.loop-i.i c.loop-i.at c.piece_for-p.result (omega arith) c.piece_for-p.ensures
-          (c.loop-i.invariant.2 c.loop-i.i (omega arith)) c.loop-i.invariant.1 c.requires.1,
+          (c.loop-i.invariant.2 c.loop-i.i (omega arith)) c.loop-i.invariant.1 c.requires,
     )
 
 pub overflow_add-at-in-loop-i : goal.overflow_add-at-in-loop-i
@@ -30,7 +27,7 @@ overflow_add-at-in-loop-i c =
     omega (
       arith,
       room_left (parts c.args.mem.now).fields (parts c.loop-i.mem).fields c.args.line c.args.n c.args.len c.args.count c.loop-i.i c.loop-i.at c.piece_for-p.result (omega arith) c.piece_for-p.ensures
-          (c.loop-i.invariant.2 c.loop-i.i (omega arith)) c.loop-i.invariant.1 c.requires.1,
+          (c.loop-i.invariant.2 c.loop-i.i (omega arith)) c.loop-i.invariant.1 c.requires,
     )
 
 pub loop-i-preserved : goal.loop-i-preserved

@@ -16,7 +16,7 @@ returns-then-len-eq0 c =
     let p : Parts = parts c.args.mem.now in
     let k = c.len_at-len.ensures ∙ ap (λ q. min q.len (200704 - q.start)) c.waits.ensures in
     let w : List ℕ = waiting i p.lines in
-    let t = window_length i.from (i.to - i.from) p.lines (lines_length c.args.mem.now c.requires) in
+    let t = window_length i.from (i.to - i.from) p.lines (lines_length c.args.mem.now c.told-mem) in
     let e : none_of w ≡ true = none_there w (omega arith) in
     record {
       noted = ap (λ b. with_fields p (pick b p.fields (closed_words p.fields i.cut))) (sym e);
@@ -31,7 +31,7 @@ returns c =
     let p : Parts = parts c.args.mem.now in
     let k = c.len_at-len.ensures ∙ ap (λ q. min q.len (200704 - q.start)) c.waits.ensures in
     let w : List ℕ = waiting i p.lines in
-    let t : c.len_at-len.result ≡ length w = k ∙ sym (window_length i.from (i.to - i.from) p.lines (lines_length c.args.mem.now c.requires)) in
+    let t : c.len_at-len.result ≡ length w = k ∙ sym (window_length i.from (i.to - i.from) p.lines (lines_length c.args.mem.now c.told-mem)) in
     let e : none_of w ≡ false = some_there w (λ h. omega arith) in
     record {
       noted = c.close-fields.ensures.noted ∙ ap (λ b. with_fields p (pick b p.fields (closed_words p.fields i.cut))) (sym e);

@@ -6,5 +6,5 @@ use Rattle.regions.proofs.cells.set_slot.Goals as goal
 pub returns : goal.returns
 unfolding parts
 returns c =
-    parts_slots c.args.mem.now c.save.new.cells c.requires (c.save.auto.cells ∙ part_length 12416 8192 c.args.mem.now (omega arith))
+    parts_slots c.args.mem.now c.save.new.cells c.told-mem (c.save.auto.cells ∙ part_length 12416 8192 c.args.mem.now (omega arith))
     ∙ ap (with_slots (parts c.args.mem.now)) c.save.ensures.words

@@ -6,5 +6,5 @@ use Rattle.regions.proofs.cells.set_stacked.Goals as goal
 pub returns : goal.returns
 unfolding parts
 returns c =
-    parts_stack c.args.mem.now c.save.new.cells c.requires (c.save.auto.cells ∙ part_length 20608 32832 c.args.mem.now (omega arith))
+    parts_stack c.args.mem.now c.save.new.cells c.told-mem (c.save.auto.cells ∙ part_length 20608 32832 c.args.mem.now (omega arith))
     ∙ ap (with_stack (parts c.args.mem.now)) c.save.ensures.words

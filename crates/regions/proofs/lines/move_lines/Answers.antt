@@ -6,5 +6,5 @@ use Rattle.regions.proofs.lines.move_lines.Goals as goal
 pub returns : goal.returns
 unfolding parts
 returns c =
-    parts_lines c.args.mem.now c.move_within.new.words c.requires (c.move_within.auto.words ∙ part_length 69888 25088 c.args.mem.now (omega arith))
+    parts_lines c.args.mem.now c.move_within.new.words c.told-mem (c.move_within.auto.words ∙ part_length 69888 25088 c.args.mem.now (omega arith))
     ∙ ap (with_lines (parts c.args.mem.now)) c.move_within.ensures

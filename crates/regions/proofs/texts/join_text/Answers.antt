@@ -6,5 +6,5 @@ use Rattle.regions.proofs.texts.join_text.Goals as goal
 pub returns : goal.returns
 unfolding parts
 returns c =
-    parts_texts c.args.mem.now c.copy_text.new.texts c.requires (c.copy_text.auto.texts ∙ part_length 94976 98304 c.args.mem.now (omega arith))
+    parts_texts c.args.mem.now c.copy_text.new.texts c.told-mem (c.copy_text.auto.texts ∙ part_length 94976 98304 c.args.mem.now (omega arith))
     ∙ ap (with_texts (parts c.args.mem.now)) c.copy_text.ensures

@@ -6,10 +6,13 @@ use Rattle.values.proofs.Reading.{plainly}
 use Rattle.values.proofs.compare.plain_number.Goals as goal
 
 pub overflow_cast-result : goal.overflow_cast-result
-overflow_cast-result c = record { sfits = omega (arith, (plainly (bytes_of c.in-Short.short.len c.in-Short.short.word) c.in-Some.n c.in-Some.ensures).small) }
+overflow_cast-result c =
+    let k = c.in_ok-plain_digits-in-Short in
+    record { sfits = omega (arith, (plainly (bytes_of c.in-Short.short.len c.in-Short.short.word) _ (sym k.was ∙ c.plain_digits.ensures)).small) }
 
-pub returns-in-Some : goal.returns-in-Some
-returns-in-Some c =
-    let p = plainly (bytes_of c.in-Short.short.len c.in-Short.short.word) c.in-Some.n c.in-Some.ensures in
-    let e : to_z w64 c.in-Some.n ≡ pos c.in-Some.n = omega (arith, ints, p.small) in
-    ap Some e ∙ ap upwards c.in-Some.ensures ∙ sym (ap plain_number c.in-Short.is)
+pub returns-in_ok-plain_digits-in-Short : goal.returns-in_ok-plain_digits-in-Short
+returns-in_ok-plain_digits-in-Short c =
+    let k = c.in_ok-plain_digits-in-Short in
+    let d = sym k.was ∙ c.plain_digits.ensures in
+    let e : to_z w64 k.field-0 ≡ pos k.field-0 = omega (arith, ints, (plainly (bytes_of c.in-Short.short.len c.in-Short.short.word) k.field-0 d).small) in
+    ap Some e ∙ ap upwards d ∙ sym (ap plain_number c.in-Short.is)

@@ -3,17 +3,13 @@ use Rattle.std.proofs.lemmas.Int.{ints}
 use Rattle.values.proofs.Cutting.{field_number_not, field_number_so}
 use Rattle.values.proofs.fields.field_number.Goals as goal
 
-pub returns-then-n-lt0 : goal.returns-then-n-lt0
-returns-then-n-lt0 c =
-    let e : to_z w64 (of_z w64 c.args.n) ≡ c.args.n = omega (arith, ints) in
-    field_number_not c.args.n (inl (simp e at c.if-n-lt0.true))
+pub returns-in_default : goal.returns-in_default
+returns-in_default c = field_number_not c.args.n (inl (omega (arith, ints)))
 
-pub returns-then-n-gt-LAST_FIELD : goal.returns-then-n-gt-LAST_FIELD
-returns-then-n-gt-LAST_FIELD c =
-    let e : to_z w64 (of_z w64 c.args.n) ≡ c.args.n = omega (arith, ints) in
-    field_number_not c.args.n (inr (simp e at c.if-n-gt-LAST_FIELD.true))
+pub returns-in_default-2 : goal.returns-in_default-2
+returns-in_default-2 c = field_number_not c.args.n (inr (omega (arith, ints)))
 
-pub returns-else-n-gt-LAST_FIELD : goal.returns-else-n-gt-LAST_FIELD
-returns-else-n-gt-LAST_FIELD c =
+pub returns-in-0-to-1000 : goal.returns-in-0-to-1000
+returns-in-0-to-1000 c =
     let e : to_z w64 (of_z w64 c.args.n) ≡ c.args.n = omega (arith, ints) in
-    simp e (field_number_so c.args.n (simp e at c.if-n-lt0.false) (simp e at c.if-n-gt-LAST_FIELD.false))
+    simp e (field_number_so c.args.n (omega (arith, ints)) (omega (arith, ints)))
