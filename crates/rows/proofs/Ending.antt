@@ -11,7 +11,7 @@ use Rattle.rows.proofs.Putting.{put_put, row_length}
 same_printed : (a b c d : ℕ) (x y : Bool) → a ≡ b → c ≡ d → x ≡ y → ◌≡◌ {A = Printed} (record { done = a; used = c; finished = x }) (record { done = b; used = d; finished = y })
 same_printed a b c d x y p q r = cc
 
-abbrev pub starting : List ℕ → ℕ → ℕ → Writing
+abbrev starting : List ℕ → ℕ → ℕ → Writing
 starting d used done = record { row = d; at = used; skip = done }
 
 put_at : (d : List ℕ) (used done : ℕ) (bs : List ℕ) → (put (starting d used done) bs).at ≡ used + min (length bs - done) (length d - used)

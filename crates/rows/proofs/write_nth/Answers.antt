@@ -1,4 +1,4 @@
-use Rattle.std.proofs.Common.{◌≡◌, [], ◌∷◌, ap, ◌∙◌, arith}
+use Rattle.std.proofs.Common.{◌≡◌, ap, ◌∙◌, arith}
 use Rattle.language.specs.Text.{as_text}
 use Rattle.store.specs.Values.{worth}
 use Rattle.regions.specs.Parts.{parts}
@@ -16,7 +16,7 @@ returns-clause-written c =
     let t = as_text (worth 77822 p.texts c.stacked.result) in
     let e : put (writing c.if-i-gt0.pen) t ≡ put w (nth_text p c.args.from c.args.i) =
     elim c.if-i-gt0.branch [
-      | then-i-gt0 x ↦ rw x.pen-is (ap (λ v. put v t) x.byte.ensures.written ∙ put_put w (32 ∷ []) t ∙ rw c.stacked.ensures (ap (put w) (nth_later p c.args.from c.args.i (λ e. omega (arith, x.if-i-gt0.true)))))
-      | else-i-gt0 x ↦ rw x.pen-is (rw c.stacked.ensures (ap (put w) (nth_first p c.args.from c.args.i (omega (arith, x.if-i-gt0.false)))))
+      | then-i-gt0 x ↦ rw (x.pen-is, x.byte.ensures.written, put_put, c.stacked.ensures) (ap (put w) (nth_later p c.args.from c.args.i (λ z. omega (arith, x.if-i-gt0.true))))
+      | else-i-gt0 x ↦ rw (x.pen-is, c.stacked.ensures) (ap (put w) (nth_first p c.args.from c.args.i (omega (arith, x.if-i-gt0.false))))
     ] in
     c.write_value.ensures.written ∙ e
