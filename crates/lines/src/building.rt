@@ -39,41 +39,6 @@ struct Piece {
     room: usize,
 }
 
-// The piece for field i + 1, where field n is to have `len` bytes that come later.
-fn piece_for(mem: &Memory, line: Line, n: usize, len: usize, i: usize) -> Piece
-    requires { i < 18446744073709551615 }
-    ensures { result ≡ piece_of (parts mem.now).fields line n len i }
-{
-    if i + 1 == n {
-        return Piece {
-            from: 0,
-            copy: 0,
-            room: len,
-        };
-    }
-    let old = nth_field(mem, line, i + 1);
-    Piece {
-        from: old.start,
-        copy: old.len,
-        room: old.len,
-    }
-}
-
-// How many bytes all pieces take, each with a blank behind it, if they have room in a buffer.
-fn total_len(mem: &Memory, line: Line, n: usize, len: usize, count: usize) -> Option<usize>
-    ensures { result ≡ pick (nat_le (total (pieces (parts mem.now).fields line n len count 0)) 65536) (Some (total (pieces (parts mem.now).fields line n len count 0))) None }
-{
-    let mut sum = 0;
-    for i in 0..count {
-        let p = piece_for(mem, line, n, len, i);
-        if p.room >= ROOM - sum {
-            return None;
-        }
-        sum += p.room + 1;
-    }
-    Some(sum)
-}
-
 // Lays down the piece for field i + 1, at byte `at` of the buffer that begins at `start`.
 fn lay(mem: &mut Memory, p: Piece, start: usize, i: usize, at: usize)
     requires { (start ≤ 135168) × (at + p.room < 65536) }
@@ -88,17 +53,63 @@ fn lay(mem: &mut Memory, p: Piece, start: usize, i: usize, at: usize)
     put_line_byte(mem, start + at + p.room, b' ');
 }
 
-// Lays down all pieces.
-fn lay_all(mem: &mut Memory, line: Line, n: usize, len: usize, count: usize)
-    requires { total (pieces (parts mem.old).fields line n len count 0) ≤ 65536 }
-    ensures { parts mem.new ≡ laid (parts mem.old) (buffer_of line) 0 0 (pieces (parts mem.old).fields line n len count 0) }
-{
-    let start = free_buffer(line);
-    let mut at = 0;
-    for i in 0..count {
-        let p = piece_for(mem, line, n, len, i);
-        lay(mem, p, start, i, at);
-        at += p.room + 1;
+// A line that is to have room for `len` bytes as its field n, and so many fields.
+#[derive(Clone, Copy)]
+struct Change {
+    line: Line,
+    n: usize,
+    len: usize,
+    fields: usize,
+}
+
+impl Change {
+    // The piece for field i + 1.
+    fn piece(self, mem: &Memory, i: usize) -> Piece
+        requires { i < 18446744073709551615 }
+        ensures { result ≡ piece_of (parts mem.now).fields self.line self.n self.len i }
+    {
+        if i + 1 == self.n {
+            return Piece {
+                from: 0,
+                copy: 0,
+                room: self.len,
+            };
+        }
+        let old = nth_field(mem, self.line, i + 1);
+        Piece {
+            from: old.start,
+            copy: old.len,
+            room: old.len,
+        }
+    }
+
+    // How many bytes all pieces take, each with a blank behind it, if they have room in a buffer.
+    fn total(self, mem: &Memory) -> Option<usize>
+        ensures { result ≡ pick (nat_le (total (pieces (parts mem.now).fields self.line self.n self.len self.fields 0)) 65536) (Some (total (pieces (parts mem.now).fields self.line self.n self.len self.fields 0))) None }
+    {
+        let mut sum = 0;
+        for i in 0..self.fields {
+            let p = self.piece(mem, i);
+            if p.room >= ROOM - sum {
+                return None;
+            }
+            sum += p.room + 1;
+        }
+        Some(sum)
+    }
+
+    // Lays down all pieces.
+    fn lay(self, mem: &mut Memory)
+        requires { total (pieces (parts mem.old).fields self.line self.n self.len self.fields 0) ≤ 65536 }
+        ensures { parts mem.new ≡ laid (parts mem.old) (buffer_of self.line) 0 0 (pieces (parts mem.old).fields self.line self.n self.len self.fields 0) }
+    {
+        let start = free_buffer(self.line);
+        let mut at = 0;
+        for i in 0..self.fields {
+            let p = self.piece(mem, i);
+            lay(mem, p, start, i, at);
+            at += p.room + 1;
+        }
     }
 }
 
@@ -109,8 +120,14 @@ pub fn build(mem: &mut Memory, line: Line, n: usize, len: usize) -> Option<Line>
     ensures line { result ≡ built (parts mem.old) line n len }
 {
     let fields = line.fields.max(n);
-    let bytes = total_len(mem, line, n, len, fields)?;
-    lay_all(mem, line, n, len, fields);
+    let change = Change {
+        line,
+        n,
+        len,
+        fields,
+    };
+    let bytes = change.total(mem)?;
+    change.lay(mem);
     let place = Place {
         start: free_buffer(line),
         len: bytes.saturating_sub(1),

@@ -9,7 +9,8 @@ use crate::cutting::{Cut, close, fresh, len_at, pass};
 use crate::line::Line;
 use regions::Memory;
 use regions::fields::Place;
-use regions::lines::{byte_within, put_piece, shift_lines};
+use regions::lines::{byte_within, move_lines, put_text};
+use store::lent::Lent;
 
 // How many bytes the buffer has: those of the longest line, and a piece.
 pub const ROOM: usize = 69_632;
@@ -43,8 +44,11 @@ pub fn take_in(mem: &mut Memory, input: &mut Input, piece: &[u8])
 {
     let n = len_at(waits(*input));
     let k = piece.len().min(ROOM.saturating_sub(n));
-    shift_lines(mem, input.from, n);
-    put_piece(mem, n, &piece[0..k]);
+    move_lines(mem, input.from, 0, n);
+    let taken = Lent {
+        piece: &piece[0..k],
+    };
+    put_text(mem, n, &taken);
     input.from = 0;
     input.to = n + k;
 }

@@ -1,3 +1,2 @@
-pub mod Moving
 pub mod Places
 pub mod Regions

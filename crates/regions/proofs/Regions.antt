@@ -36,51 +36,57 @@ same_parts : {a a₁ b b₁ c c₁ d d₁ e e₁ f f₁ h h₁ : List ℕ} {g g�
     (record { registers = a₁; code = b₁; slots = c₁; stack = d₁; fields = e₁; lines = f₁; texts = g₁; rest = h₁ })
 same_parts a₂ b₂ c₂ d₂ e₂ f₂ g₂ h₂ = cc
 
--- each region in turn
+pub part_length : (a k : ℕ) (m : List ℕ) → a + k ≤ length m → length (part a k m) ≡ k
+part_length a k m h = let e : k ≤ length (drop a m) = simp length-drop (omega arith) in length-take-le k (drop a m) e
+
+-- each region in turn: it has become x
 pub parts_registers : (m s : List ℕ) → length m ≡ 262144 → length s ≡ 64 → parts (put_mid 0 64 m s) ≡ with_registers (parts m) s
 unfolding parts
 parts_registers m s l e =
     let o = part_other 0 64 m s (omega arith) e in
     same_parts (part_same 0 64 m s (omega arith) e) (o 64 12352 refl) (o 12416 8192 refl) (o 20608 32832 refl) (o 53440 16448 refl) (o 69888 25088 refl) (ap region (o 94976 98304 refl)) (o 193280 68864 refl)
 
-pub parts_code : (m s : List ℕ) → length m ≡ 262144 → length s ≡ 12352 → parts (put_mid 64 12352 m s) ≡ with_code (parts m) s
+pub parts_code : (m s x : List ℕ) → length m ≡ 262144 → length s ≡ length (part 64 12352 m) → s ≡ x → parts (put_mid 64 12352 m s) ≡ with_code (parts m) x
 unfolding parts
-parts_code m s l e =
+parts_code m s x l h p =
+    let e : length s ≡ 12352 = h ∙ part_length 64 12352 m (omega arith) in
     let o = part_other 64 12352 m s (omega arith) e in
-    same_parts (o 0 64 refl) (part_same 64 12352 m s (omega arith) e) (o 12416 8192 refl) (o 20608 32832 refl) (o 53440 16448 refl) (o 69888 25088 refl) (ap region (o 94976 98304 refl)) (o 193280 68864 refl)
+    same_parts (o 0 64 refl) (part_same 64 12352 m s (omega arith) e ∙ p) (o 12416 8192 refl) (o 20608 32832 refl) (o 53440 16448 refl) (o 69888 25088 refl) (ap region (o 94976 98304 refl)) (o 193280 68864 refl)
 
-pub parts_slots : (m s : List ℕ) → length m ≡ 262144 → length s ≡ 8192 → parts (put_mid 12416 8192 m s) ≡ with_slots (parts m) s
+pub parts_slots : (m s x : List ℕ) → length m ≡ 262144 → length s ≡ length (part 12416 8192 m) → s ≡ x → parts (put_mid 12416 8192 m s) ≡ with_slots (parts m) x
 unfolding parts
-parts_slots m s l e =
+parts_slots m s x l h p =
+    let e : length s ≡ 8192 = h ∙ part_length 12416 8192 m (omega arith) in
     let o = part_other 12416 8192 m s (omega arith) e in
-    same_parts (o 0 64 refl) (o 64 12352 refl) (part_same 12416 8192 m s (omega arith) e) (o 20608 32832 refl) (o 53440 16448 refl) (o 69888 25088 refl) (ap region (o 94976 98304 refl)) (o 193280 68864 refl)
+    same_parts (o 0 64 refl) (o 64 12352 refl) (part_same 12416 8192 m s (omega arith) e ∙ p) (o 20608 32832 refl) (o 53440 16448 refl) (o 69888 25088 refl) (ap region (o 94976 98304 refl)) (o 193280 68864 refl)
 
-pub parts_stack : (m s : List ℕ) → length m ≡ 262144 → length s ≡ 32832 → parts (put_mid 20608 32832 m s) ≡ with_stack (parts m) s
+pub parts_stack : (m s x : List ℕ) → length m ≡ 262144 → length s ≡ length (part 20608 32832 m) → s ≡ x → parts (put_mid 20608 32832 m s) ≡ with_stack (parts m) x
 unfolding parts
-parts_stack m s l e =
+parts_stack m s x l h p =
+    let e : length s ≡ 32832 = h ∙ part_length 20608 32832 m (omega arith) in
     let o = part_other 20608 32832 m s (omega arith) e in
-    same_parts (o 0 64 refl) (o 64 12352 refl) (o 12416 8192 refl) (part_same 20608 32832 m s (omega arith) e) (o 53440 16448 refl) (o 69888 25088 refl) (ap region (o 94976 98304 refl)) (o 193280 68864 refl)
+    same_parts (o 0 64 refl) (o 64 12352 refl) (o 12416 8192 refl) (part_same 20608 32832 m s (omega arith) e ∙ p) (o 53440 16448 refl) (o 69888 25088 refl) (ap region (o 94976 98304 refl)) (o 193280 68864 refl)
 
-pub parts_fields : (m s : List ℕ) → length m ≡ 262144 → length s ≡ 16448 → parts (put_mid 53440 16448 m s) ≡ with_fields (parts m) s
+pub parts_fields : (m s x : List ℕ) → length m ≡ 262144 → length s ≡ length (part 53440 16448 m) → s ≡ x → parts (put_mid 53440 16448 m s) ≡ with_fields (parts m) x
 unfolding parts
-parts_fields m s l e =
+parts_fields m s x l h p =
+    let e : length s ≡ 16448 = h ∙ part_length 53440 16448 m (omega arith) in
     let o = part_other 53440 16448 m s (omega arith) e in
-    same_parts (o 0 64 refl) (o 64 12352 refl) (o 12416 8192 refl) (o 20608 32832 refl) (part_same 53440 16448 m s (omega arith) e) (o 69888 25088 refl) (ap region (o 94976 98304 refl)) (o 193280 68864 refl)
+    same_parts (o 0 64 refl) (o 64 12352 refl) (o 12416 8192 refl) (o 20608 32832 refl) (part_same 53440 16448 m s (omega arith) e ∙ p) (o 69888 25088 refl) (ap region (o 94976 98304 refl)) (o 193280 68864 refl)
 
-pub parts_lines : (m s : List ℕ) → length m ≡ 262144 → length s ≡ 25088 → parts (put_mid 69888 25088 m s) ≡ with_lines (parts m) s
+pub parts_lines : (m s x : List ℕ) → length m ≡ 262144 → length s ≡ length (part 69888 25088 m) → s ≡ x → parts (put_mid 69888 25088 m s) ≡ with_lines (parts m) x
 unfolding parts
-parts_lines m s l e =
+parts_lines m s x l h p =
+    let e : length s ≡ 25088 = h ∙ part_length 69888 25088 m (omega arith) in
     let o = part_other 69888 25088 m s (omega arith) e in
-    same_parts (o 0 64 refl) (o 64 12352 refl) (o 12416 8192 refl) (o 20608 32832 refl) (o 53440 16448 refl) (part_same 69888 25088 m s (omega arith) e) (ap region (o 94976 98304 refl)) (o 193280 68864 refl)
+    same_parts (o 0 64 refl) (o 64 12352 refl) (o 12416 8192 refl) (o 20608 32832 refl) (o 53440 16448 refl) (part_same 69888 25088 m s (omega arith) e ∙ p) (ap region (o 94976 98304 refl)) (o 193280 68864 refl)
 
-pub parts_texts : (m s : List ℕ) → length m ≡ 262144 → length s ≡ 98304 → parts (put_mid 94976 98304 m s) ≡ with_texts (parts m) (region s)
+pub parts_texts : (m s : List ℕ) (x : Space) → length m ≡ 262144 → length s ≡ length (part 94976 98304 m) → region s ≡ x → parts (put_mid 94976 98304 m s) ≡ with_texts (parts m) x
 unfolding parts
-parts_texts m s l e =
+parts_texts m s x l h p =
+    let e : length s ≡ 98304 = h ∙ part_length 94976 98304 m (omega arith) in
     let o = part_other 94976 98304 m s (omega arith) e in
-    same_parts (o 0 64 refl) (o 64 12352 refl) (o 12416 8192 refl) (o 20608 32832 refl) (o 53440 16448 refl) (o 69888 25088 refl) (ap region (part_same 94976 98304 m s (omega arith) e)) (o 193280 68864 refl)
-
-pub part_length : (a k : ℕ) (m : List ℕ) → a + k ≤ length m → length (part a k m) ≡ k
-part_length a k m h = let e : k ≤ length (drop a m) = simp length-drop (omega arith) in length-take-le k (drop a m) e
+    same_parts (o 0 64 refl) (o 64 12352 refl) (o 12416 8192 refl) (o 20608 32832 refl) (o 53440 16448 refl) (o 69888 25088 refl) (ap region (part_same 94976 98304 m s (omega arith) e) ∙ p) (o 193280 68864 refl)
 
 -- a part and what comes after it
 pub next_part : (a k b : ℕ) (m : List ℕ) → a + k ≡ b → part a k m ++ drop b m ≡ drop a m

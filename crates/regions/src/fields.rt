@@ -38,8 +38,6 @@ pub fn set_field(mem: &mut Memory, i: usize, place: Place)
 }
 
 // A place of a text of less than 4 GiB is read as it was noted.
-pub fn places_come_back() -> u8
+pub fn places_come_back()
     ensures { PlacesComeBack }
-{
-    0
-}
+{}

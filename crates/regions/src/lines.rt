@@ -8,7 +8,7 @@ use crate::Memory;
 use store::bytes::Bytes;
 use store::packed::{Packed, byte, window_of};
 use store::place::Place;
-use store::writing::{copy_in, copy_piece, move_bytes, set_byte, shift_down};
+use store::writing::{copy_in, move_within, set_byte};
 
 const FROM: usize = 69_888;
 
@@ -46,36 +46,11 @@ pub fn put_line_byte(mem: &mut Memory, i: usize, b: u8)
     set_byte(&mut mem[FROM..TO], i, b);
 }
 
-// Puts the bytes of a piece from byte `to` on, as many as there is room for.
-pub fn put_piece(mem: &mut Memory, to: usize, piece: &[u8])
-    ensures { parts mem.new ≡ with_lines (parts mem.old) (put_bytes (parts mem.old).lines to piece.now) }
-{
-    copy_piece(piece, &mut mem[FROM..TO], to);
-}
-
-// Puts the bytes of a text, in the same way.
+// Puts the bytes of a text from byte `to` on, as many as there is room for.
 pub fn put_text<T: Bytes>(mem: &mut Memory, to: usize, t: &T)
     ensures { parts mem.new ≡ with_lines (parts mem.old) (put_bytes (parts mem.old).lines to (T.Bytes.bytes t.now)) }
 {
     copy_in(t, &mut mem[FROM..TO], to);
-}
-
-// Moves n bytes from byte `from` on to the beginning; fewer where the region ends.
-pub fn shift_lines(mem: &mut Memory, from: usize, n: usize)
-    ensures { parts mem.new ≡ with_lines (parts mem.old) (put_bytes (parts mem.old).lines 0 (window from n (parts mem.old).lines)) }
-{
-    shift_down(&mut mem[FROM..TO], from, n);
-}
-
-// Moves n bytes from byte `from` on to where byte `to` is, in some words; fewer where the words end.
-fn move_within(words: &mut [u64], from: usize, to: usize, n: usize)
-    ensures { words.new ≡ put_bytes words.old to (window from n words.old) }
-{
-    let end = 8 * words.len();
-    let from = from.min(end);
-    let n = n.min(end - from);
-    let to = to.min(end);
-    move_bytes(words, from, to, n.min(end - to));
 }
 
 // Moves n bytes from byte `from` on to where byte `to` is; fewer where the region ends.

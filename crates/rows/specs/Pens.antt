@@ -9,8 +9,8 @@ pub record Writing : Type 0 where
   pub at : ℕ
   pub skip : ℕ
 
-abbrev pub writing : List ℕ → Pen → Writing
-writing row pen = record { row = row; at = pen.at; skip = pen.skip }
+abbrev pub writing : Pen → Writing
+writing pen = record { row = pen.row.now; at = pen.at; skip = pen.skip }
 
 -- bytes written into a row, as many as there is room for, without those that are passed over
 unfoldable pub put : Writing → List ℕ → Writing

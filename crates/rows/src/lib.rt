@@ -1,21 +1,18 @@
 // What print writes into the row that is lent; a long print goes on in the next row.
 #![tactic(auto)]
 
-mod copying;
 mod pen;
 
 ghost use Rattle.std.specs.Prelude.{◌≡◌, ◌+◌, ◌-◌, ◌^◌, ◌<◌, ◌≤◌, [], ◌∷◌, length, drop, nat_lt};
 ghost use Rattle.language.specs.Text.{or, as_text, joined, each};
 ghost use Rattle.language.specs.Meaning.{printed};
-ghost use Rattle.store.specs.Words.{over};
 ghost use Rattle.store.specs.Values.{worth};
 ghost use Rattle.regions.specs.Parts.{parts};
 ghost use Rattle.rows.specs.Pens.{writing, put};
 ghost use Rattle.rows.specs.Rows.{nth_text, worths, topmost, printed_line, over_row, went};
 ghost use Rattle.rows.specs.Laws.{PrintLaws};
 
-use crate::copying::write_packed;
-use crate::pen::{Pen, write_byte, write_text};
+use crate::pen::Pen;
 use regions::Memory;
 use regions::cells::stacked;
 use regions::fields::Place;
@@ -37,82 +34,60 @@ pub struct Printed {
 }
 
 // Writes the text of a value.
-fn write_value(mem: &Memory, v: Value, row: &mut [u8], pen: Pen) -> Pen
-    ensures { writing row.new result ≡ put (writing row.old pen) (as_text (worth 77822 (parts mem.now).texts v)) }
+fn write_value(mem: &Memory, v: Value, pen: &mut Pen)
+    ensures same_row { pen.new.row.ghost_name ≡ pen.old.row.ghost_name }
+    ensures written { writing pen.new ≡ put (writing pen.old) (as_text (worth 77822 (parts mem.now).texts v)) }
 {
     match v {
-        Value::Unset => pen,
-        Value::Number(n) => write_text(&decimal_of(n), row, pen),
-        Value::Short(short) => write_text(&short, row, pen),
-        Value::Text(handle) => write_packed(text_view(mem, handle), row, pen),
+        Value::Unset => {}
+        Value::Number(n) => pen.text(&decimal_of(n)),
+        Value::Short(short) => pen.text(&short),
+        Value::Text(handle) => pen.text(&text_view(mem, handle)),
     }
 }
 
 // Writes the text of value i of those from cell `from` of the stack on, with a blank before it unless it is the first.
-fn write_nth(mem: &Memory, from: usize, i: usize, row: &mut [u8], pen: Pen) -> Pen
+fn write_nth(mem: &Memory, from: usize, i: usize, pen: &mut Pen)
     requires { from + i < 2 ^ 64 }
-    ensures { writing row.new result ≡ put (writing row.old pen) (nth_text (parts mem.now) from i) }
+    ensures same_row { pen.new.row.ghost_name ≡ pen.old.row.ghost_name }
+    ensures written { writing pen.new ≡ put (writing pen.old) (nth_text (parts mem.now) from i) }
 {
-    let v = stacked(mem, from + i);
-    if i == 0 {
-        return write_value(mem, v, row, pen);
+    if i > 0 {
+        pen.byte(b' ');
     }
-    let pen = write_byte(b' ', row, pen);
-    write_value(mem, v, row, pen)
+    write_value(mem, stacked(mem, from + i), pen);
 }
 
 // Writes the texts of n values from cell `from` of the stack on, with blanks between them; stops where the row is full.
-fn write_values(mem: &Memory, from: usize, n: usize, row: &mut [u8], start: Pen) -> Pen
+fn write_values(mem: &Memory, from: usize, n: usize, pen: &mut Pen)
     requires { from + n < 2 ^ 64 }
-    ensures { writing row.new result ≡ put (writing row.old start) (joined (each as_text (worths (parts mem.now) from n))) }
+    ensures same_row { pen.new.row.ghost_name ≡ pen.old.row.ghost_name }
+    ensures written { writing pen.new ≡ put (writing pen.old) (joined (each as_text (worths (parts mem.now) from n))) }
 {
-    let mut pen = start;
     for i in 0..n {
-        if pen.at >= row.len() {
-            if pen.skip == 0 {
-                return pen;
-            }
+        if pen.at >= pen.row.len() && pen.skip == 0 {
+            return;
         }
-        pen = write_nth(mem, from, i, row, pen);
+        write_nth(mem, from, i, pen);
     }
-    pen
 }
 
-// Ends a print that began with the pen `start`: byte 10, and how far the print has come.
-fn end_print(row: &mut [u8], start: Pen, pen: Pen) -> Printed
-    requires { (start.at ≤ pen.at) × (start.skip + ((put (writing row.old pen) (10 ∷ [])).at - start.at) < 2 ^ 64) }
-    ensures row { row.new ≡ (put (writing row.old pen) (10 ∷ [])).row }
-    ensures used { result.used ≡ (put (writing row.old pen) (10 ∷ [])).at }
-    ensures done { result.done ≡ start.skip + ((put (writing row.old pen) (10 ∷ [])).at - start.at) }
-    ensures finished { result.finished ≡ or (nat_lt 0 pen.skip) (nat_lt pen.at (length row.old)) }
+// Ends a print that began at byte `used` of the row and byte `done` of its own: byte 10, and how far the print has come.
+fn end_print(pen: &mut Pen, used: usize, done: usize) -> Printed
+    requires { (used ≤ pen.old.at) × (done + ((put (writing pen.old) (10 ∷ [])).at - used) < 2 ^ 64) }
+    ensures same_row { pen.new.row.ghost_name ≡ pen.old.row.ghost_name }
+    ensures written { writing pen.new ≡ put (writing pen.old) (10 ∷ []) }
+    ensures used { result.used ≡ pen.new.at }
+    ensures done { result.done ≡ done + (pen.new.at - used) }
+    ensures finished { result.finished ≡ or (nat_lt 0 pen.old.skip) (nat_lt pen.old.at (length pen.old.row.now)) }
 {
-    let finished = pen.skip > 0 || pen.at < row.len();
-    let pen = write_byte(b'\n', row, pen);
+    let finished = pen.skip > 0 || pen.at < pen.row.len();
+    pen.byte(b'\n');
     Printed {
-        done: start.skip + (pen.at - start.at),
+        done: done + (pen.at - used),
         used: pen.at,
         finished,
     }
-}
-
-// A print of values into a whole row.
-fn row_of_values(mem: &Memory, from: usize, n: usize, row: &mut [u8], start: Pen) -> Printed
-    requires { (length row.old ≡ 4096) × ((from + n < 2 ^ 64) × (n < 2 ^ 32)) }
-    ensures row { row.new ≡ over row.old start.at (drop start.skip (printed (worths (parts mem.now) from n))) }
-    ensures came { result ≡ went (printed (worths (parts mem.now) from n)) start.skip start.at }
-{
-    let pen = write_values(mem, from, n, row, start);
-    end_print(row, start, pen)
-}
-
-// A print of the line into a whole row.
-fn row_of_line(mem: &Memory, place: Place, row: &mut [u8], start: Pen) -> Printed
-    requires { length row.old ≡ 4096 }
-    ensures row { row.new ≡ over row.old start.at (drop start.skip (printed_line (parts mem.now) place)) }
-    ensures came { result ≡ went (printed_line (parts mem.now) place) start.skip start.at }
-{
-    let pen = write_packed(line_window(mem, place), row, start);
-    end_print(row, start, pen)
 }
 
 // Writes the n topmost values of a stack of this depth, from byte `done` of the print on, as far as the row has room behind the bytes that are
@@ -129,11 +104,14 @@ pub fn print_values(
     ensures row { out.new ≡ over_row out.old used (drop done (printed (topmost (parts mem.now) depth n))) }
     ensures came { result ≡ went (printed (topmost (parts mem.now) depth n)) done used }
 {
-    let start = Pen {
+    let (row, _) = out.split_at_mut(ROW);
+    let mut pen = Pen {
+        row,
         at: used,
         skip: done,
     };
-    row_of_values(mem, depth.saturating_sub(n), n, &mut out[0..ROW], start)
+    write_values(mem, depth.saturating_sub(n), n, &mut pen);
+    end_print(&mut pen, used, done)
 }
 
 // Writes the line and byte 10, in the same way.
@@ -142,11 +120,14 @@ pub fn print_line(mem: &Memory, place: Place, done: usize, out: &mut [u8], used:
     ensures row { out.new ≡ over_row out.old used (drop done (printed_line (parts mem.now) place)) }
     ensures came { result ≡ went (printed_line (parts mem.now) place) done used }
 {
-    let start = Pen {
+    let (row, _) = out.split_at_mut(ROW);
+    let mut pen = Pen {
+        row,
         at: used,
         skip: done,
     };
-    row_of_line(mem, place, &mut out[0..ROW], start)
+    pen.text(&line_window(mem, place));
+    end_print(&mut pen, used, done)
 }
 
 // A print that goes on over several rows.

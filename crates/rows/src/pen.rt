@@ -5,40 +5,34 @@ ghost use Rattle.rows.specs.Pens.{writing, put};
 use store::bytes::Bytes;
 use store::copying::copy_out;
 
-// Where the next byte goes, and how many bytes are passed over before one is written, since an earlier row has them.
-#[derive(Clone, Copy)]
-pub struct Pen {
+// A row, where its next byte goes, and how many bytes are passed over before one is written, since an earlier row has them.
+#[derive(Drop)]
+pub struct Pen<'a> {
+    pub row: &'a mut [u8],
     pub at: usize,
     pub skip: usize,
 }
 
-// Writes a text, as much of it as there is room for.
-pub fn write_text<T: Bytes>(t: &T, row: &mut [u8], pen: Pen) -> Pen
-    ensures { writing row.new result ≡ put (writing row.old pen) (T.Bytes.bytes t.now) }
-{
-    let n = copy_out(t, pen.skip, row, pen.at);
-    Pen {
-        at: pen.at + n,
-        skip: pen.skip.saturating_sub(t.len()),
+impl Pen<'_> {
+    // Writes a text, as much of it as there is room for.
+    pub fn text<T: Bytes>(&mut self, t: &T)
+        ensures same_row { self.new.row.ghost_name ≡ self.old.row.ghost_name }
+        ensures written { writing self.new ≡ put (writing self.old) (T.Bytes.bytes t.now) }
+    {
+        self.at += copy_out(t, self.skip, self.row, self.at);
+        self.skip = self.skip.saturating_sub(t.len());
     }
-}
 
-// Writes a byte, if there is room for it.
-pub fn write_byte(b: u8, row: &mut [u8], pen: Pen) -> Pen
-    ensures { writing row.new result ≡ put (writing row.old pen) (b ∷ []) }
-{
-    if pen.skip > 0 {
-        Pen {
-            at: pen.at,
-            skip: pen.skip - 1,
+    // Writes a byte, if there is room for it.
+    pub fn byte(&mut self, b: u8)
+        ensures same_row { self.new.row.ghost_name ≡ self.old.row.ghost_name }
+        ensures written { writing self.new ≡ put (writing self.old) (b ∷ []) }
+    {
+        if self.skip > 0 {
+            self.skip -= 1;
+        } else if self.at < self.row.len() {
+            self.row[self.at] = b;
+            self.at += 1;
         }
-    } else if pen.at < row.len() {
-        row[pen.at] = b;
-        Pen {
-            at: pen.at + 1,
-            skip: 0,
-        }
-    } else {
-        pen
     }
 }

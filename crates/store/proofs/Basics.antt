@@ -12,9 +12,6 @@ is_same h x e = rw (eq-eqb h x e)
 pub is_other : (h x : ℕ) → h ≢ x → is h x ≡ 0
 is_other h x e = rw (ne_eqb h x e)
 
-pub occ_none : (h x : ℕ) (xs : List ℕ) → occ h (x ∷ xs) ≡ 0 → h ≢ x
-occ_none h x xs e p = omega (arith, is_same h x p, e)
-
 pub occ_append : (h : ℕ) (xs ys : List ℕ) → occ h (xs ++ ys) ≡ occ h xs + occ h ys
 occ_append h [] ys = sym (zero-add (occ h ys))
 occ_append h (x ∷ xs) ys = omega (arith, occ_append h xs ys)

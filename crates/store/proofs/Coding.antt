@@ -84,9 +84,6 @@ saved_past ws i v h = rw (lt-leb (2 * i + 2) (length ws) (omega arith))
 pub told_back : (v u : Value) (r : ℕ) → v ≡ u → r ≡ payload_of u → decode (kind_of u) (payload_of u) ≡ u → decode (kind_of v) r ≡ v
 told_back v u r e p b = ap (λ x. decode (kind_of x) r) e ∙ ap (decode (kind_of u)) p ∙ b ∙ sym e
 
-pub told_payload : (v u : Value) (r : ℕ) → v ≡ u → r ≡ payload_of u → r ≡ payload_of v
-told_payload v u r e p = p ∙ sym (ap payload_of e)
-
 -- a new text
 
 pub made_short : (T W : ℕ) (s : Space) (bs : List ℕ) (b : Short) → length bs ≤ 8 → b ≡ short_of bs → ◌≡◌ {A = Made} (record { space = s; value = Some (InShort b) }) (made T W s bs)

@@ -3,7 +3,7 @@ use Rattle.std.proofs.Common.{◌≡◌, ℕ, suc, ◌+◌, ◌*◌, ◌/◌, �
 use Rattle.std.proofs.lemmas.Bool.{cases_lt, cases_eq}
 use Rattle.store.specs.Space.{Space, span, place, put_word, raised, lowered, length_of, allocated}
 use Rattle.store.specs.Model.{Cell, live, extent, names, occ, Placed, Laid, Store, on, without, more, fewer, look, let_go, with_word, Held, held_bytes}
-use Rattle.store.proofs.Basics.{is_same, is_other, occ_le, names_live, live_in, live_out}
+use Rattle.store.proofs.Basics.{is_same, is_other, names_live, live_in, live_out}
 use Rattle.store.specs.Laws.{Got}
 use Rattle.store.proofs.Taking.{allocated_is}
 use Rattle.store.proofs.Holding.{split, read, rewritten, looked, live_on, raised_cell, lowered_cell, released_cell}
@@ -202,9 +202,6 @@ held_less H hs hs' h e p k =
           ])
     ]
 
-pub held_bound : (H : List Cell) (hs : List ℕ) (h : ℕ) → Held H hs → (look h H).count ≤ length hs
-held_bound H hs h e = omega (arith, e h, occ_le h hs)
-
 -- room
 
 abbrev share : ℕ → List Cell → ℕ
@@ -264,10 +261,6 @@ share_bytes h (c ∷ H) =
 weight_bytes : (H : List Cell) (hs : List ℕ) → 4 * weight H hs ≤ held_bytes H hs
 weight_bytes H [] = omega arith
 weight_bytes H (h ∷ hs) = omega (arith, share_bytes h H, weight_bytes H hs)
-
-held_least : (H : List Cell) (hs : List ℕ) → 16 * length hs ≤ held_bytes H hs
-held_least H [] = omega arith
-held_least H (h ∷ hs) = omega (arith, held_least H hs)
 
 pub each_extent : (H : List Cell) → 4 * length H ≤ extent H
 each_extent [] = omega arith

@@ -5,7 +5,7 @@ use Rattle.std.proofs.lemmas.List.{drop_more, drop-take, take-take, take_all, ge
 use Rattle.std.proofs.lemmas.Bool.{cases_lt}
 use Rattle.store.specs.Words.{bytes_of, unpacked, put_byte, put_bytes, window}
 use Rattle.store.proofs.Packing.{length_bytes, length_unpacked, unpacked_below, window_cut}
-use Rattle.store.proofs.Putting.{Words, words_same, length_put, length_puts, put_set, put_fits, two_put, three_parts, words_placed, puts_all, puts_over}
+use Rattle.store.proofs.Putting.{Words, words_same, length_put, length_puts, put_set, put_fits, two_put, three_parts, words_placed, puts_all, puts_over, puts_past}
 
 pub length_window : (f n : ℕ) (ws : List ℕ) → f + n ≤ 8 * length ws → length (window f n ws) ≡ n
 length_window f n ws h = length-take-le n (drop f (unpacked ws)) (omega (arith, length-drop f (unpacked ws), length_unpacked ws))
@@ -186,3 +186,16 @@ window_append ws f n bs b h =
     ∙ ap (drop f) t
     ∙ drop-append-le f (take (f + n) (unpacked ws)) bs (omega (arith, length-take-le (f + n) (unpacked ws) (omega arith)))
     ∙ ap (λ x. x ++ bs) (drop-take f n (unpacked ws))
+
+-- bytes that are moved from any place to any other, as many as there are and have room
+pub moved_within : (ws : List ℕ) (from to n f m t k : ℕ) → f ≡ min from (8 * length ws) → m ≡ min n (8 * length ws - f) → t ≡ min to (8 * length ws) → k ≡ min m (8 * length ws - t) →
+    put_bytes ws t (window f k ws) ≡ put_bytes ws to (window from n ws)
+moved_within ws from to n f m t k p q r s =
+    let bs : List ℕ = window f m ws in
+    let l : length bs ≡ m = length_window f m ws (omega arith) in
+    ap (put_bytes ws t) (sym (window_front ws f m k (omega arith))) ∙ puts_all ws t bs k (omega arith)
+    ∙ (elim (cases_lt to (8 * length ws)) [
+      | inl h ↦ let e : t ≡ to = omega arith in ap (λ x. put_bytes ws x bs) e
+      | inr h ↦ puts_past ws t bs (omega arith) ∙ sym (puts_past ws to bs h)
+    ])
+    ∙ ap (put_bytes ws to) (window_cut ws from n f m p q)

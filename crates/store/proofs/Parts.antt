@@ -103,19 +103,20 @@ pub heap_part : (T k : ℕ) (m : List ℕ) → length m ≡ 2 + T + k → take k
 unfolding space
 heap_part T k m e = take_all k (drop (2 + T) m) (omega (arith, length-drop (2 + T) m))
 
-pub heap_put : (T k : ℕ) (m ys : List ℕ) → length m ≡ 2 + T + k → length ys ≡ k → space T (put_mid (2 + T) k m ys) ≡ with_heap (space T m) ys
-heap_put T k m ys e f =
+part_length : (T k : ℕ) (m : List ℕ) → length m ≡ 2 + T + k → length (take k (drop (2 + T) m)) ≡ k
+part_length T k m e = length-take-le k (drop (2 + T) m) (omega (arith, length-drop (2 + T) m))
+
+pub heap_put : (T k : ℕ) (m ys zs : List ℕ) → length m ≡ 2 + T + k → length ys ≡ length (take k (drop (2 + T) m)) → ys ≡ zs → space T (put_mid (2 + T) k m ys) ≡ with_heap (space T m) zs
+heap_put T k m ys zs e h g =
     let a : ℕ = 2 + T in
     let l : List ℕ = put_mid a k m ys in
+    let f : length ys ≡ k = h ∙ part_length T k m e in
     let whole : l ≡ take a m ++ ys =
     sym (take-append-drop (a + k) l) ∙ ap (λ x. x ++ drop (a + k) l) (take-put_mid a k m ys (a + k) (omega arith) (omega arith))
     ∙ ap (λ x. (take a m ++ ys) ++ x) (drop-put_mid a k m ys (a + k) (omega arith) (omega arith) f ∙ drop_all (a + k) m (omega arith)) ∙ append-nil (take a m ++ ys) in
-    front_same T l m ys (omega arith) (take-put_mid_below a k m ys a (omega arith) (omega arith))
-    (ap (drop a) whole ∙ drop_at (take a m) ys a (length-take-le a m (omega arith)))
+    front_same T l m zs (omega arith) (take-put_mid_below a k m ys a (omega arith) (omega arith))
+    (ap (drop a) whole ∙ drop_at (take a m) ys a (length-take-le a m (omega arith)) ∙ g)
 
 -- what stands there already
 pub paste_self : (d : List ℕ) (at n : ℕ) → paste d at (drop at d) n ≡ d
 paste_self d at n = ap (λ x. x ++ drop (at + n) d) (sym (take-add at n d)) ∙ take-append-drop (at + n) d
-
-pub part_length : (T k : ℕ) (m : List ℕ) → length m ≡ 2 + T + k → length (take k (drop (2 + T) m)) ≡ k
-part_length T k m e = length-take-le k (drop (2 + T) m) (omega (arith, length-drop (2 + T) m))

@@ -4,7 +4,6 @@ ghost use Rattle.store.specs.Words.{put_byte, put_bytes, window};
 ghost use Rattle.store.specs.Bytewise.{ByteLaws};
 
 use crate::bytes::Bytes;
-use crate::lent::Lent;
 use crate::packed::{byte, word_at};
 
 // Byte i becomes b; behind the last word nothing is changed.
@@ -53,13 +52,6 @@ pub fn copy_in<T: Bytes>(t: &T, words: &mut [u64], to: usize)
         put_words(t, head, whole, words, (to + head) / 8);
         put_bytes(t, done, n - done, words, to + done);
     }
-}
-
-// Puts the bytes of a piece, in the same way.
-pub fn copy_piece(piece: &[u8], words: &mut [u64], to: usize)
-    ensures { words.new ≡ put_bytes words.old to piece.now }
-{
-    copy_in(&Lent { piece }, words, to);
 }
 
 // Moves n bytes one by one, the first first.
@@ -124,14 +116,15 @@ pub fn move_bytes(words: &mut [u64], from: usize, to: usize, n: usize)
     }
 }
 
-// Moves n bytes from byte `from` on to the beginning; fewer where the words end.
-pub fn shift_down(words: &mut [u64], from: usize, n: usize)
-    ensures { words.new ≡ put_bytes words.old 0 (window from n words.old) }
+// Moves n bytes from byte `from` on to where byte `to` is; fewer where the words end.
+pub fn move_within(words: &mut [u64], from: usize, to: usize, n: usize)
+    ensures { words.new ≡ put_bytes words.old to (window from n words.old) }
 {
     let end = 8 * words.len();
     let from = from.min(end);
     let n = n.min(end - from);
-    move_bytes(words, from, 0, n);
+    let to = to.min(end);
+    move_bytes(words, from, to, n.min(end - to));
 }
 
 // What this does to the bytes.

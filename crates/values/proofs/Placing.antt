@@ -1,8 +1,8 @@
 -- Where a text stands in another, and pieces of a text.
-use Rattle.std.proofs.Common.{◌≡◌, ℕ, suc, ◌+◌, ◌-◌, ◌<◌, ◌≤◌, min, Bool, true, false, eqb, List, [], ◌∷◌, length, get_or, take, drop, ℤ, pos, negsuc, nat_abs, sym, refl, ap, ◌∙◌, inl, inr, add-one, arith, length-drop, length-take}
+use Rattle.std.proofs.Common.{◌≡◌, ℕ, suc, ◌+◌, ◌-◌, ◌<◌, ◌≤◌, min, Bool, true, false, eqb, List, [], ◌∷◌, length, get_or, take, drop, ℤ, pos, negsuc, nat_abs, sym, refl, ap, ◌∙◌, add-one, arith, length-drop, length-take}
 use lib.Signed.{le_z}
-use Rattle.std.proofs.lemmas.Bool.{eq-eqb, ne_eqb, leb-true, leb-false, true≢false, cases_lt}
-use Rattle.std.proofs.lemmas.List.{drop_more, drop_all, drop-drop, get_or-take, get_or-drop, take_all}
+use Rattle.std.proofs.lemmas.Bool.{eq-eqb, ne_eqb, leb-true, leb-false, true≢false}
+use Rattle.std.proofs.lemmas.List.{drop_more, drop_all, drop-drop, get_or-take, get_or-drop, take_min, drop_min}
 use Rattle.language.specs.Text.{pick, same}
 use Rattle.language.specs.Meaning.{place_in, place_of, cut_from}
 use Rattle.store.specs.Numbers.{number}
@@ -66,20 +66,6 @@ unfolding place_in
 place_of_longer t bs h = let e : suc (length bs) - length t ≡ 0 = omega arith in rw e
 
 -- pieces of a text: k bytes from position f on
-
-take_min : (n : ℕ) (b : List ℕ) → take (min n (length b)) b ≡ take n b
-take_min n b =
-    elim (cases_lt n (length b)) [
-      | inl h ↦ let e : min n (length b) ≡ n = omega arith in ap (λ k. take k b) e
-      | inr h ↦ let e : min n (length b) ≡ length b = omega arith in ap (λ k. take k b) e ∙ take_all (length b) b (omega arith) ∙ sym (take_all n b h)
-    ]
-
-drop_min : (n : ℕ) (b : List ℕ) → drop (min n (length b)) b ≡ drop n b
-drop_min n b =
-    elim (cases_lt n (length b)) [
-      | inl h ↦ let e : min n (length b) ≡ n = omega arith in ap (λ k. drop k b) e
-      | inr h ↦ let e : min n (length b) ≡ length b = omega arith in ap (λ k. drop k b) e ∙ drop_all (length b) b (omega arith) ∙ sym (drop_all n b h)
-    ]
 
 pub cut_none : (f k : ℤ) (b : List ℕ) → le_z k (pos 0) ≡ true → [] ≡ cut_from (number f) (number k) b
 unfolding cut_from

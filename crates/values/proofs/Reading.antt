@@ -1,7 +1,9 @@
 -- Runs of bytes in a text, and the numbers that texts begin with.
-use Rattle.std.proofs.Common.{◌≡◌, ℕ, zero, suc, ◌+◌, ◌-◌, ◌*◌, ◌^◌, ◌<◌, ◌≤◌, min, Bool, true, false, ◌&&◌, eqb, ltb, leb, ◌⊎◌, List, [], ◌∷◌, length, get_or, take, drop, Some, None, sym, refl, ap, ◌∙◌, inl, inr, pow-suc, zero-add, add-one, arith, length-drop}
+use Rattle.std.proofs.Common.{◌≡◌, ℕ, zero, suc, ◌+◌, ◌-◌, ◌*◌, ◌^◌, ◌<◌, ◌≤◌, min, Bool, true, false, ◌&&◌, eqb, ltb, leb, ◌⊎◌, List, [], ◌∷◌, length, get_or, take, drop, Some, None, sym, refl, ap, ◌∙◌, inl, inr, pow-suc, zero-add, add-one, arith, length-drop, length-take}
 use native.Mathlib.Nat.{pow-le-pow_right}
 use lib.Dec.{leb-suc-suc}
+use lib.Seq.{take-nil}
+use Rattle.std.proofs.Math.Bool.{and-true}
 use Rattle.std.proofs.lemmas.Bool.{eq-eqb, ne_eqb, lt-ltb, le-ltb, le-leb, lt-leb, ltb-true, leb-true, eqb-true, and_parts, and_right, cases_lt}
 use Rattle.std.proofs.lemmas.List.{drop_more, drop_all, drop-drop, get_or-drop}
 use Rattle.language.specs.Text.{pick, every, plus, text, blank, digit, negative, leading, no_blanks, after_digits, starts_digit, none_of, signed, unsigned, only_digits, number_of, looks}
@@ -99,10 +101,6 @@ last_under k n h l = omega (arith, pow-le-pow_right {n = 10} (omega arith) {i = 
 pub ended : (l from k : ℕ) → min (l - from) 18 ≤ k → (18 ≤ k) ⊎ (l ≤ from + k)
 ended l from k h = elim (cases_lt k 18) [ inl i ↦ inr (omega arith) | inr i ↦ inl i ]
 
-take_nothing : (k : ℕ) → take {A = ℕ} k [] ≡ []
-take_nothing zero = refl
-take_nothing (suc k) = refl
-
 module _ (bs : List ℕ) (from k n : ℕ) where
   more_left : k < 18 → from + k < length bs → take (18 - k) (drop k (drop from bs)) ≡ get_or bs (from + k) 0 ∷ take (18 - (k + 1)) (drop (k + 1) (drop from bs))
   more_left h l =
@@ -122,16 +120,12 @@ module _ (bs : List ℕ) (from k n : ℕ) where
   pub lead_end : (18 ≤ k) ⊎ (length bs ≤ from + k) → n ≡ leading n (take (18 - k) (drop k (drop from bs)))
   unfolding leading
   lead_end (inl h) = let e : 18 - k ≡ 0 = omega arith in rw e
-  lead_end (inr h) = rw (drop-drop k from bs, drop_all (from + k) bs h, take_nothing (18 - k))
+  lead_end (inr h) = rw (drop-drop k from bs, drop_all (from + k) bs h, take-nil)
 
 pub digit_low : (c : ℕ) → digit c ≡ true → c - 48 < 10
 digit_low c h = omega (arith, leb-true c 57 (and_parts (leb 48 c) (leb c 57) h).1)
 
 -- a text that looks like a number
-
-and_true : (b : Bool) → (b && true) ≡ b
-and_true true = refl
-and_true false = refl
 
 starts_is : (s : List ℕ) → starts_digit s ≡ ltb 0 (run digit s)
 unfolding run
@@ -225,7 +219,7 @@ module _ (bs : List ℕ) (start first : ℕ) (begins : start ≡ 0 + run blank (
       leb (length bs) close ≡ looks (text bs)
   looks_so end close e f h k =
       let l : first < end = omega arith in
-      rw (looks_is end close e f, lt-ltb first end l, le-leb (end - first) 18 k) (sym (and_true (leb (length bs) close)))
+      rw (looks_is end close e f, lt-ltb first end l, le-leb (end - first) 18 k) (sym (and-true (leb (length bs) close)))
 
 -- a text of digits alone
 
@@ -272,11 +266,6 @@ no_dash_first (c ∷ cs) h =
     let l : 48 ≤ c = leb-true 48 c (and_parts (leb 48 c) (leb c 57) (first_digit c cs h)).0 in
     rw (ne_eqb c 45 (λ e. omega arith))
 
-few_taken : (k : ℕ) (s : List ℕ) → length (take k s) ≤ k
-few_taken zero s = omega arith
-few_taken (suc k) [] = omega arith
-few_taken (suc k) (c ∷ cs) = omega (arith, few_taken k cs)
-
 lead_small : (s : List ℕ) (k n : ℕ) → n < 10 ^ k → k + length s ≤ 18 → leading n s < 10 ^ 18
 unfolding leading
 lead_small [] k n h l = last_under k n (omega arith) h
@@ -311,5 +300,5 @@ plainly s n e = by (ltb 0 (length s) && (leb (length s) 18 && eqb (run digit s) 
         record {
           like = sym (looks_so s 0 0 a d (run digit s) _ x refl (λ z. omega arith) (omega arith)) ∙ le-leb (length s) (run digit s + run blank (drop (run digit s) s)) (omega arith);
           taken = number_above s 0 0 a d n v (omega arith);
-          small = rw v (lead_small (take 18 s) 0 0 (omega arith) (omega (arith, few_taken 18 s)));
+          small = rw v (lead_small (take 18 s) 0 0 (omega arith) (omega (arith, length-take 18 s)));
         }

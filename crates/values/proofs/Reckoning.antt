@@ -1,16 +1,15 @@
 -- The language's arithmetic is that of the integers.
-use Rattle.std.proofs.Common.{◌≡◌, ℕ, zero, suc, ◌+◌, ◌-◌, ◌*◌, ◌/◌, ◌%◌, ◌^◌, ◌<◌, ◌≤◌, false, ◌⊎◌, ℤ, pos, negsuc, ◌+ℤ◌, ◌-ℤ◌, ◌*ℤ◌, neg_ℤ, ◌≤ℤ◌, ◌<ℤ◌, Some, None, Option, Result, sym, refl, ap, ◌∙◌, inl, inr, mul-zero, div-le_self, arith, w64, SFits}
+use Rattle.std.proofs.Common.{◌≡◌, ℕ, zero, suc, ◌+◌, ◌-◌, ◌*◌, ◌/◌, ◌%◌, ◌<◌, ◌≤◌, false, ◌⊎◌, ℤ, pos, negsuc, ◌+ℤ◌, ◌-ℤ◌, ◌*ℤ◌, neg_ℤ, ◌≤ℤ◌, ◌<ℤ◌, Some, None, Option, Result, sym, refl, ap, ◌∙◌, inl, inr, mul-zero, arith}
 use native.Mathlib.Nat.{mod-add-div}
 use lib.IntN.{sub_ℕ}
-use lib.Signed.{quot_z, rem_z, mag_rem}
-use mir.Syntax.{w128}
+use lib.Signed.{quot_z, rem_z}
 use Rattle.std.specs.Option.{ok_or}
 use Rattle.values.specs.declared.numbers.Trouble.{Trouble}
 use Rattle.values.specs.declared.numbers.Trouble.TheVariants.{TooLarge}
 use Rattle.std.proofs.lemmas.Bool.{cases_lt, ne_eqb, lt-ltb, le-ltb, le-leb, lt-leb}
 use Rattle.std.proofs.lemmas.Int.{ints}
 use Rattle.language.specs.Text.{Value, number_of, fine, too_large, within, sum, opposite, product, quotient, limit, negative, apart, is_zero}
-use Rattle.language.specs.Meaning.{State, as_got, quotient_got, left_over_got}
+use Rattle.language.specs.Meaning.{State, Got, as_got, quotient_got, left_over_got}
 use Rattle.store.specs.Numbers.{number}
 use Rattle.values.specs.Numbers.{judged, divided}
 
@@ -104,19 +103,6 @@ left_over_is a b =
 
 -- what division answers
 
-neg_fits : (n : ℕ) → n < 2 ^ 64 → SFits w128 (neg_ℤ (pos n))
-neg_fits zero h = record { sfits = omega arith }
-neg_fits (suc n) h = record { sfits = omega arith }
-
-pub quotient_fits : (a b : ℤ) → SFits w64 a → SFits w128 (quot_z a b)
-quotient_fits (pos a) (pos b) h = record { sfits = omega (arith, h.sfits, div-le_self a b) }
-quotient_fits (pos a) (negsuc b) h = neg_fits (a / suc b) (omega (arith, h.sfits, div-le_self a (suc b)))
-quotient_fits (negsuc a) (pos b) h = neg_fits (suc a / b) (omega (arith, h.sfits, div-le_self (suc a) b))
-quotient_fits (negsuc a) (negsuc b) h = record { sfits = omega (arith, h.sfits, div-le_self (suc a) (suc b)) }
-
-pub left_over_fits : (a b : ℤ) → SFits w64 a → SFits w128 (rem_z a b)
-left_over_fits a b h = record { sfits = omega (arith, h.sfits, mag_rem a b) }
-
 nonzero : (b : ℤ) → (b ≡ pos 0 → ⊥) → is_zero (number b) ≡ false
 nonzero (pos zero) h = absurd (h refl)
 nonzero (pos (suc n)) h = ne_eqb (suc n) 0 (λ e. omega arith)
@@ -139,7 +125,11 @@ module _ (a b z : ℤ) (o : Option ℤ) (r : Result ℤ Trouble) (h : b ≡ pos 
       (ap (λ t. divided t s) e ∙ answered o s ∙ ap (λ n. as_got n s) (f ∙ ap (λ v. within (number v)) q ∙ ap within (sym (left_over_is a b))))
 
 -- operators on values, by the numbers that they are taken as
-module _ (op : Value → Value → Value) (a b : ℤ) (o : Option ℤ) (r : Result ℤ Trouble) (f : judged o ≡ within (op (number a) (number b))) (e : r ≡ ok_or o TooLarge) where
-  pub reckoned : (v w : Value) (s : State) → number_of v ≡ number a → number_of w ≡ number b → divided r s ≡ as_got (within (op (number_of v) (number_of w))) s
-  reckoned v w s h k =
-      ap (λ t. divided t s) e ∙ answered o s ∙ ap (λ n. as_got n s) (f ∙ ap (λ x. within (op x (number b))) (sym h) ∙ ap (λ x. within (op (number_of v) x)) (sym k))
+module _ (a b x y : ℤ) (e : x ≡ a) (f : y ≡ b) (r : Result ℤ Trouble) where
+  pub taken : (op : Value → Value → State → Got) → ((s : State) → divided r s ≡ op (number x) (number y) s) → (v w : Value) (s : State) → number_of v ≡ number a → number_of w ≡ number b →
+      divided r s ≡ op (number_of v) (number_of w) s
+  taken op g v w s h k = rw (h, k, ← e, ← f) (g s)
+
+  pub reckoned : (op : Value → Value → Value) (o : Option ℤ) → judged o ≡ within (op (number x) (number y)) → r ≡ ok_or o TooLarge → (v w : Value) (s : State) → number_of v ≡ number a → number_of w ≡ number b →
+      divided r s ≡ as_got (within (op (number_of v) (number_of w))) s
+  reckoned op o g p = taken (λ m n. as_got (within (op m n))) (λ s. ap (λ t. divided t s) p ∙ answered o s ∙ ap (λ n. as_got n s) g)

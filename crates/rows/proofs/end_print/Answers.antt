@@ -4,5 +4,4 @@ use Rattle.rows.proofs.Putting.{at_grows}
 use Rattle.rows.proofs.end_print.Goals as goal
 
 pub overflow_sub-result : goal.overflow_sub-result
-overflow_sub-result c =
-    omega (arith, ap (λ (w : Writing). w.at) c.write_byte-pen.ensures, at_grows (writing c.args.row.now c.args.pen) (10 ∷ []))
+overflow_sub-result c = omega (arith, ap (λ (w : Writing). w.at) c.byte.ensures.written, at_grows (writing c.args.pen.now) (10 ∷ []))

@@ -1,25 +1,17 @@
-use Rattle.std.proofs.Common.{sym, ap, ◌∙◌}
+use Rattle.std.proofs.Common.{ap, ◌∙◌}
 use Rattle.language.specs.Text.{as_text}
-use Rattle.store.specs.Values.{worth}
-use Rattle.regions.specs.Parts.{parts}
 use Rattle.rows.specs.Pens.{writing, put}
 use Rattle.rows.proofs.Putting.{put_none}
 use Rattle.rows.proofs.write_value.Goals as goal
 
-pub returns-in-Unset : goal.returns-in-Unset
+pub returns-in-Unset-clause-written : goal.returns-in-Unset-clause-written
 unfolding as_text
-returns-in-Unset c =
-    put_none (writing c.args.row.now c.args.pen)
-    ∙ ap (λ v. put (writing c.args.row.now c.args.pen) (as_text (worth 77822 (parts c.args.mem.now).texts v))) (sym c.in-Unset.is)
+returns-in-Unset-clause-written c = rw c.in-Unset.is (put_none (writing c.args.pen.now))
 
-pub returns-in-Short : goal.returns-in-Short
+pub returns-in-Short-clause-written : goal.returns-in-Short-clause-written
 unfolding as_text
-returns-in-Short c =
-    c.write_text-in-Short.ensures
-    ∙ ap (λ v. put (writing c.args.row.now c.args.pen) (as_text (worth 77822 (parts c.args.mem.now).texts v))) (sym c.in-Short.is)
+returns-in-Short-clause-written c = rw c.in-Short.is c.text-in-Short.ensures.written
 
-pub returns-in-Text : goal.returns-in-Text
+pub returns-in-Text-clause-written : goal.returns-in-Text-clause-written
 unfolding as_text
-returns-in-Text c =
-    c.write_packed.ensures ∙ ap (put (writing c.args.row.now c.args.pen)) c.text_view.ensures
-    ∙ ap (λ v. put (writing c.args.row.now c.args.pen) (as_text (worth 77822 (parts c.args.mem.now).texts v))) (sym c.in-Text.is)
+returns-in-Text-clause-written c = rw c.in-Text.is (c.text-in-Text.ensures.written ∙ ap (put _) c.text_view.ensures)

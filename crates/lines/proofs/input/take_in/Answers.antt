@@ -22,10 +22,10 @@ returns c =
     let bs : List ℕ = c.args.piece.now in
     let z : c.min-k.result - 0 ≡ min (length bs) (69632 - length w) = omega arith in
     let y : take (c.min-k.result - 0) bs ≡ that_fits w bs = take_min (69632 - length w) (c.min-k.result - 0) bs z in
-    let s : parts c.shift_lines.new.mem ≡ with_lines p (put_bytes p.lines 0 w) = c.shift_lines.ensures ∙ ap (λ x. with_lines p (put_bytes p.lines 0 x)) (window_all i.from m n p.lines l k) in
+    let s : parts c.move_lines.new.mem ≡ with_lines p (put_bytes p.lines 0 w) = c.move_lines.ensures ∙ ap (λ x. with_lines p (put_bytes p.lines 0 x)) (window_all i.from m n p.lines l k) in
     record {
       lines =
-          c.put_piece.ensures
+          c.put_text.ensures
           ∙ ap (λ q. with_lines q (put_bytes q.lines n (take (c.min-k.result - 0) bs))) s
           ∙ ap (λ x. with_lines p (put_bytes (put_bytes p.lines 0 w) n x)) y
           ∙ ap (λ x. with_lines p (put_bytes (put_bytes p.lines 0 w) x (that_fits w bs))) (sym t);

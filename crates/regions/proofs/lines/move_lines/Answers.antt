@@ -1,10 +1,7 @@
-use Rattle.std.proofs.Common.{ap, ◌∙◌, arith}
-use Rattle.regions.specs.Parts.{parts, with_lines}
-use Rattle.regions.proofs.Regions.{parts_lines, part_length}
+use Rattle.regions.specs.Parts.{parts}
+use Rattle.regions.proofs.Regions.{parts_lines}
 use Rattle.regions.proofs.lines.move_lines.Goals as goal
 
 pub returns : goal.returns
 unfolding parts
-returns c =
-    parts_lines c.args.mem.now c.move_within.new.words c.told-mem (c.move_within.auto.words ∙ part_length 69888 25088 c.args.mem.now (omega arith))
-    ∙ ap (with_lines (parts c.args.mem.now)) c.move_within.ensures
+returns c = parts_lines c.args.mem.now _ _ c.told-mem c.move_within.auto.words c.move_within.ensures

@@ -1,10 +1,6 @@
-use Rattle.std.proofs.Common.{◌≡◌, ℕ, ◌+◌, List, get_or, drop, set, sym, ap, ◌∙◌, arith, length-drop, get_or-drop}
-use lib.Seq.{paste}
-use Rattle.std.proofs.lemmas.List.Edits.{paste_none, paste_more}
+use Rattle.std.proofs.Common.{ℕ, ◌+◌, List, get_or, drop, set, sym, ap, ◌∙◌, arith, length-drop, get_or-drop}
+use Rattle.std.proofs.lemmas.List.Edits.{paste_more}
 use Rattle.store.proofs.copying.bytes_out.Goals as goal
-
-pub loop-i-init : goal.loop-i-init
-loop-i-init g c = paste_none c.args.out.now c.args.at (drop c.args.from (g.T.Bytes.bytes c.args.t.now))
 
 pub loop-i-preserved : goal.loop-i-preserved
 loop-i-preserved g c =
@@ -13,8 +9,3 @@ loop-i-preserved g c =
     ap (set c.loop-i.out (c.args.at + c.loop-i.i)) (c.at.ensures ∙ sym (get_or-drop c.args.from b c.loop-i.i 0))
     ∙ ap (λ t. set t (c.args.at + c.loop-i.i) (get_or (drop c.args.from b) c.loop-i.i 0)) c.loop-i.invariant
     ∙ paste_more c.args.out.now c.args.at (drop c.args.from b) c.loop-i.i 0 (omega arith) (omega arith)
-
-pub returns : goal.returns
-returns g c =
-    let e : c.loop-i.i ≡ c.args.n = omega arith in
-    c.loop-i.invariant ∙ ap (paste c.args.out.now c.args.at (drop c.args.from (g.T.Bytes.bytes c.args.t.now))) e

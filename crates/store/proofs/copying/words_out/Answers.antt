@@ -1,14 +1,10 @@
 use Rattle.std.proofs.Common.{◌≡◌, ℕ, ◌+◌, ◌*◌, List, take, drop, sym, ap, ◌∙◌, arith, length-drop, drop-drop}
 use lib.Seq.{paste}
-use Rattle.std.proofs.lemmas.List.Edits.{paste_none}
 use Rattle.std.proofs.lemmas.Slice.{put_mid-paste}
 use Rattle.store.specs.Words.{bytes_of}
 use Rattle.store.proofs.Packing.{length_bytes}
 use Rattle.store.proofs.Pasting.{paste_on, eight_bytes}
 use Rattle.store.proofs.copying.words_out.Goals as goal
-
-pub loop-i-init : goal.loop-i-init
-loop-i-init g c = paste_none c.args.out.now c.args.at (drop c.args.from (g.T.Bytes.bytes c.args.t.now))
 
 pub loop-i-preserved : goal.loop-i-preserved
 loop-i-preserved g c =
@@ -24,8 +20,3 @@ loop-i-preserved g c =
     ∙ ap (λ x. paste x (c.args.at + 8 * i) (take 8 (drop (8 * i) p)) 8) c.loop-i.invariant
     ∙ paste_on d p c.args.at (8 * i) 8 (omega arith) (omega arith)
     ∙ ap (paste d c.args.at p) n
-
-pub returns : goal.returns
-returns g c =
-    let e : c.loop-i.i ≡ c.args.n = omega arith in
-    c.loop-i.invariant ∙ ap (λ k. paste c.args.out.now c.args.at (drop c.args.from (g.T.Bytes.bytes c.args.t.now)) (8 * k)) e

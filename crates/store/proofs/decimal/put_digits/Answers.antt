@@ -28,10 +28,7 @@ loop-m-preserved c =
       digit_put c.loop-m.row (c.loop-m.k - 1) (48 + c.loop-m.m / 10 % 10) (omega arith),
     )
 
-pub returns : goal.returns
-returns c =
+pub returns-clause-digits : goal.returns-clause-digits
+returns-clause-digits c =
     let i = c.loop-m.invariant in
-    record {
-      inside = (i.0, omega arith);
-      digits = i.5 ∙ sym (i.4 ∙ digits_last c.loop-m.k c.loop-m.m (drop (c.loop-m.k + 1) c.loop-m.row) (omega arith));
-    }
+    i.5 ∙ sym (i.4 ∙ digits_last c.loop-m.k c.loop-m.m (drop (c.loop-m.k + 1) c.loop-m.row) (omega arith))

@@ -1,4 +1,4 @@
-use Rattle.std.proofs.Common.{◌≡◌, ℕ, ◌+◌, ◌-◌, List, get_or, drop, sym, ap, ◌∙◌, add-zero, arith}
+use Rattle.std.proofs.Common.{◌≡◌, ℕ, ◌+◌, ◌-◌, List, get_or, drop, sym, ap, ◌∙◌, arith}
 use Rattle.std.proofs.lemmas.List.{drop_all}
 use Rattle.store.specs.Words.{unpacked, put_byte, put_bytes, window}
 use Rattle.store.proofs.Putting.{puts_none}
@@ -26,10 +26,3 @@ loop-i-preserved c =
           ∙ puts_before ws c.args.to bs i c.loop-i.invariant.1 (window_below c.args.from c.args.n ws) (omega arith),
       c.loop-i.invariant.1,
     )
-
-pub returns : goal.returns
-returns c =
-    let ws : List ℕ = c.args.words.now in
-    let bs : List ℕ = window c.args.from c.args.n ws in
-    let e : c.loop-i.i ≡ 0 = omega arith in
-    c.loop-i.invariant.0 ∙ ap (λ k. put_bytes ws (c.args.to + k) (drop k bs)) e ∙ ap (λ k. put_bytes ws k bs) (add-zero c.args.to)

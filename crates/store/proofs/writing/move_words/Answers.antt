@@ -1,6 +1,5 @@
 use Rattle.std.proofs.Common.{◌≡◌, ℕ, ◌+◌, ◌*◌, List, take, drop, sym, ap, ◌∙◌, arith}
-use Rattle.std.proofs.lemmas.List.{take_all}
-use Rattle.store.specs.Words.{bytes_of, put_bytes, window}
+use Rattle.store.specs.Words.{bytes_of, window}
 use Rattle.store.proofs.Putting.{puts_none, words_more, set_fits}
 use Rattle.store.proofs.Moving.{length_window, word_ahead}
 use Rattle.store.proofs.writing.move_words.Goals as goal
@@ -20,10 +19,3 @@ loop-i-preserved c =
       words_more ws c.args.q bs i v c.loop-i.words c.loop-i.invariant.0 c.loop-i.invariant.1 (omega arith) (omega arith) c.word_at.type_inv e,
       set_fits c.loop-i.words (c.args.q + i) v c.loop-i.invariant.1 c.word_at.type_inv,
     )
-
-pub returns : goal.returns
-returns c =
-    let ws : List ℕ = c.args.words.now in
-    let bs : List ℕ = window c.args.from (8 * c.args.n) ws in
-    let l = length_window c.args.from (8 * c.args.n) ws (omega arith) in
-    c.loop-i.invariant.0 ∙ ap (put_bytes ws (8 * c.args.q)) (take_all (8 * c.loop-i.i) bs (omega arith))

@@ -1,5 +1,5 @@
-use Rattle.std.proofs.Common.{◌≡◌, ◌+◌, take, drop, sym, ap, ◌∙◌, arith, length-drop, get_or-drop}
-use Rattle.store.specs.Words.{put_byte, put_bytes}
+use Rattle.std.proofs.Common.{◌+◌, drop, sym, ap, ◌∙◌, arith, length-drop, get_or-drop}
+use Rattle.store.specs.Words.{put_byte}
 use Rattle.store.proofs.Putting.{puts_none, puts_more}
 use Rattle.store.proofs.writing.put_bytes.Goals as goal
 
@@ -13,8 +13,3 @@ loop-i-preserved g c =
     c.set_byte.ensures
     ∙ ap (put_byte c.loop-i.words (c.args.to + c.loop-i.i)) (c.at.ensures ∙ sym (get_or-drop c.args.from (g.T.Bytes.bytes c.args.t.now) c.loop-i.i 0))
     ∙ sym (puts_more c.args.words.now c.args.to b c.loop-i.i (omega arith) ∙ (rw (← c.loop-i.invariant)))
-
-pub returns : goal.returns
-returns g c =
-    let e : c.loop-i.i ≡ c.args.n = omega arith in
-    c.loop-i.invariant ∙ ap (λ k. put_bytes c.args.words.now c.args.to (take k (drop c.args.from (g.T.Bytes.bytes c.args.t.now)))) e

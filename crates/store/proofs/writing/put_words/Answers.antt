@@ -1,5 +1,5 @@
 use Rattle.std.proofs.Common.{◌≡◌, ℕ, ◌+◌, ◌*◌, List, take, drop, sym, ap, ◌∙◌, arith, length-drop, drop-drop}
-use Rattle.store.specs.Words.{bytes_of, put_bytes}
+use Rattle.store.specs.Words.{bytes_of}
 use Rattle.store.proofs.Putting.{puts_none, words_more, set_fits}
 use Rattle.store.proofs.writing.put_words.Goals as goal
 
@@ -16,8 +16,3 @@ loop-i-preserved g c =
       words_more c.args.words.now c.args.q (drop c.args.from b) c.loop-i.i v c.loop-i.words c.loop-i.invariant.0 c.loop-i.invariant.1 (omega arith) (omega arith) c.word.type_inv e,
       set_fits c.loop-i.words (c.args.q + c.loop-i.i) v c.loop-i.invariant.1 c.word.type_inv,
     )
-
-pub returns : goal.returns
-returns g c =
-    let e : c.loop-i.i ≡ c.args.n = omega arith in
-    c.loop-i.invariant.0 ∙ ap (λ k. put_bytes c.args.words.now (8 * c.args.q) (take (8 * k) (drop c.args.from (g.T.Bytes.bytes c.args.t.now)))) e

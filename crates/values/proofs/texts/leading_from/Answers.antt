@@ -1,6 +1,6 @@
 use Rattle.std.proofs.Common.{◌+◌, ◌-◌, ◌*◌, length, take, drop, sym, ap, ◌∙◌, pow-suc, add-one, arith}
 use Rattle.language.specs.Text.{digit, leading}
-use Rattle.values.proofs.Reading.{under, lead_more, lead_stop, lead_end, ended, last_under, digit_low}
+use Rattle.values.proofs.Reading.{under, lead_more, lead_stop, lead_end, ended, digit_low}
 use Rattle.values.proofs.texts.leading_from.Goals as goal
 
 pub returns-then-not-is_digit : goal.returns-then-not-is_digit
@@ -24,9 +24,6 @@ loop-k-preserved g c = (
       ∙ ap (λ b. leading (10 * c.loop-k.n + (b - 48)) (take (18 - (c.loop-k.k + 1)) (drop (c.loop-k.k + 1) (drop c.args.from (g.T.Bytes.bytes c.args.t.now))))) (sym c.at-b.ensures),
 )
 
-pub returns : goal.returns
-returns g c =
-    record {
-      worth = lead_end (g.T.Bytes.bytes c.args.t.now) c.args.from c.loop-k.k c.loop-k.n (ended (length (g.T.Bytes.bytes c.args.t.now)) c.args.from c.loop-k.k (omega arith)) ∙ sym c.loop-k.invariant.1;
-      small = last_under c.loop-k.k c.loop-k.n (omega arith) c.loop-k.invariant.0;
-    }
+pub returns-clause-worth : goal.returns-clause-worth
+returns-clause-worth g c =
+    lead_end (g.T.Bytes.bytes c.args.t.now) c.args.from c.loop-k.k c.loop-k.n (ended (length (g.T.Bytes.bytes c.args.t.now)) c.args.from c.loop-k.k (omega arith)) ∙ sym c.loop-k.invariant.1

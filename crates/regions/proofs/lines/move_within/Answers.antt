@@ -1,8 +1,0 @@
-use Rattle.std.proofs.Common.{◌∙◌}
-use Rattle.regions.proofs.Moving.{moved_cut}
-use Rattle.regions.proofs.lines.move_within.Goals as goal
-
-pub returns : goal.returns
-returns c =
-    c.move_bytes.ensures
-    ∙ moved_cut c.args.words.now c.args.from c.args.to c.args.n c.min-from.result c.min-n.result c.min-to.result c.min.result c.min-from.ensures c.min-n.ensures c.min-to.ensures c.min.ensures
