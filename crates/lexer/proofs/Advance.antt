@@ -46,15 +46,15 @@ module _ (bs : List ℕ) (from : ℕ) (s : Scan) (c : Meant) (e : MeantIs bs s.a
   pub scan_too_far : c.byte ≡ 41 → s.«open» ≡ 0 → none_of (whole_pattern (pattern (4 * length (from_on bs from) + 4) (from_on bs from))) ≡ true
   scan_too_far q n = never_opened (4 * length (from_on bs from) + 4) x.begun _ (from_on bs c.next) (omega (arith, long, x.shorter)) (x.open_is ∙ n) (at_byte 41 q refl)
 
-  pub scan_mark : a_mark c.byte ≡ true → s.marks ≡ true → Scans bs from (record { at = c.next; «open» = s.«open»; marks = true })
+  pub scan_mark : a_mark c.byte ≡ true → s.marks ≡ true → Scans bs from (record { at = c.next; «open» = s.«open»; marks = s.marks })
   scan_mark t q =
       record {
         begun = x.begun;
         open_is = x.open_is;
         shorter = omega (arith, long, x.shorter);
         inside = e.2;
-        means = marked (4 * length (from_on bs from) + 4) x.begun _ c.byte (from_on bs c.next) (omega (arith, long, x.shorter)) t
-            (subst (λ b. Means (4 * length (from_on bs from) + 4) x.begun b (c.byte ∷ from_on bs c.next) (pattern (4 * length (from_on bs from) + 4) (from_on bs from))) q here);
+        means = subst (λ b. Means (4 * length (from_on bs from) + 4) x.begun b (from_on bs c.next) (pattern (4 * length (from_on bs from) + 4) (from_on bs from))) (sym q) (marked (4 * length (from_on bs from) + 4) x.begun _ c.byte (from_on bs c.next) (omega (arith, long, x.shorter)) t
+            (subst (λ b. Means (4 * length (from_on bs from) + 4) x.begun b (c.byte ∷ from_on bs c.next) (pattern (4 * length (from_on bs from) + 4) (from_on bs from))) q here));
       }
 
   no_atom : (n d : ℕ) (ds : List ℕ) → a_mark d ≡ true → atom (suc n) (d ∷ ds) ≡ none

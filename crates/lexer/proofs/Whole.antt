@@ -1,25 +1,22 @@
 -- Seven words written one after the other are a cell.
-use Rattle.std.proofs.Common.{◌≡◌, ℕ, zero, suc, ◌+◌, ◌*◌, ◌<◌, ◌≤◌, ◌≢◌, List, [], ◌∷◌, length, get_or, set, refl, ◌∙◌, arith, length-set, get_or-set_other, get_or-set_same}
+use Rattle.std.proofs.Common.{◌≡◌, ℕ, ◌+◌, ◌*◌, ◌<◌, ◌≤◌, ◌≢◌, List, length, get_or, set, refl, ◌∙◌, arith, length-set, get_or-set_other, get_or-set_same}
+use Rattle.std.proofs.lemmas.List.{get_or_past}
 use Rattle.lexer.specs.Memory.{cell, Stored}
 use Rattle.lexer.specs.declared.cells.Cell.{Cell}
 
-getD_out : (m : List ℕ) (k : ℕ) → length m ≤ k → get_or m k 0 ≡ 0
-getD_out [] zero h = refl
-getD_out [] (suc k) h = refl
-getD_out (x ∷ m) zero h = absurd (omega arith)
-getD_out (x ∷ m) (suc k) h = getD_out m k (omega arith)
-
-pub cell_out : (m : List ℕ) (i : ℕ) → length m ≡ 179200 → 25600 ≤ i → record { kind = 0; flag = 0; first = 0; second = 0; third = 0; fourth = 0; fifth = 0 } ≡ cell m i
+pub cell_out : (m : List ℕ) (i : ℕ) (d : Cell) → length m ≡ 179200 → 25600 ≤ i → d.kind ≡ 0 → d.flag ≡ 0 → d.first ≡ 0 → d.second ≡ 0 → d.third ≡ 0 → d.fourth ≡ 0 → d.fifth ≡ 0 → d ≡ cell m i
 unfolding cell
-cell_out m i l h =
-    let e0 = getD_out m (7 * i) (omega arith) in
-    let e1 = getD_out m (7 * i + 1) (omega arith) in
-    let e2 = getD_out m (7 * i + 2) (omega arith) in
-    let e3 = getD_out m (7 * i + 3) (omega arith) in
-    let e4 = getD_out m (7 * i + 4) (omega arith) in
-    let e5 = getD_out m (7 * i + 5) (omega arith) in
-    let e6 = getD_out m (7 * i + 6) (omega arith) in
-    rw (e0, e1, e2, e3, e4, e5, e6) refl
+cell_out m i d l h k f a b c x y =
+    let z : Cell = record { kind = 0; flag = 0; first = 0; second = 0; third = 0; fourth = 0; fifth = 0 } in
+    let e : record { kind = d.kind; flag = d.flag; first = d.first; second = d.second; third = d.third; fourth = d.fourth; fifth = d.fifth } ≡ z = rw (k, f, a, b, c, x, y) refl in
+    let e0 = get_or_past m (7 * i) 0 (omega arith) in
+    let e1 = get_or_past m (7 * i + 1) 0 (omega arith) in
+    let e2 = get_or_past m (7 * i + 2) 0 (omega arith) in
+    let e3 = get_or_past m (7 * i + 3) 0 (omega arith) in
+    let e4 = get_or_past m (7 * i + 4) 0 (omega arith) in
+    let e5 = get_or_past m (7 * i + 5) 0 (omega arith) in
+    let e6 = get_or_past m (7 * i + 6) 0 (omega arith) in
+    e ∙ rw (e0, e1, e2, e3, e4, e5, e6) refl
 
 -- the words from b on, written in order
 abbrev pub written : List ℕ → ℕ → Cell → List ℕ

@@ -1,5 +1,5 @@
 // Reads an expression by precedence, with a stack of its own.
-ghost use Rattle.std.specs.Prelude.{◌≡◌, ℕ, suc, ◌+◌, ◌<◌, ◌≤◌, true, false, not, ◌&&◌, List, ◌∷◌, length, ◌==◌, nat_le};
+ghost use Rattle.std.specs.Prelude.{◌≡◌, ℕ, suc, ◌+◌, ◌<◌, ◌≤◌, true, false, not, ◌&&◌, List, ◌∷◌, ◌==◌, nat_le};
 ghost use Rattle.language.specs.Program.{sign, word, rest, sees, w_swap};
 ghost use Rattle.lexer.specs.Memory.{cell};
 ghost use Rattle.lexer.specs.Marks.{spelled, TokensIn};
@@ -10,29 +10,33 @@ ghost use Rattle.parser.specs.declared.frames.Frame.TheVariants.{Group, SplitFir
 ghost use Rattle.language.specs.Text.{pick};
 ghost use Rattle.lexer.specs.Ahead.{NameHere, CallHere};
 ghost use Rattle.parser.specs.Parsing.{Start, TermRead, Paid};
-ghost use Rattle.parser.specs.Precedence.{level_at, operator_at, low_at, Binds};
+ghost use Rattle.parser.specs.Precedence.{level_at, operator_at, low_at, Binds, LikeSign};
 
 use crate::frames::{Frame, Spot, Turn, frame_at, push};
-use crate::nodes::{
-    ListNode, Operator, Prefix, TermNode, flag_of, is_place, is_plain, put_list, put_term,
-};
+use crate::nodes::{ListNode, Operator, Prefix, TermNode, is_place, is_plain, put_list, put_term};
 use lexer::ahead::{is_sign, name_at, pattern_at};
+use lexer::cells::Work;
 use lexer::tokens::{Keyword, Name, Token, peek};
+
+// The text, the area and the count of its tokens are not one struct: with the area in it each function would owe, besides, that the
+// area stays the same one, and without it each promise would speak of `x.entry.text.now` and `x.entry.count`.
 
 // The level of operands, to which everything may bind.
 const TIGHTEST: u64 = 8;
 
 // Writes the node of an operand that is there, behind so many tokens; what follows may bind to it up to a level.
-fn make(work: &mut [u64], s: Spot, node: TermNode, plain: bool, eaten: usize, high: u64) -> Turn
-    requires { (length work.old ≡ 179200) × ((s.nodes < 25600) × ((s.place ≤ 4096) × (eaten ≤ 4))) }
+fn make(work: &mut Work, s: Spot, node: TermNode, plain: bool, eaten: usize, high: u64) -> Turn
+    requires nodes { s.nodes < 25600 }
+    requires place { s.place ≤ 4096 }
+    requires eaten { eaten ≤ 4 }
     ensures { Grown work.old work.new s node plain eaten high result }
 {
     put_term(work, s.nodes, node, plain);
     Turn::After(
         Spot {
             place: s.place + eaten,
-            depth: s.depth,
             nodes: s.nodes + 1,
+            ..s
         },
         s.nodes,
         high,
@@ -40,29 +44,32 @@ fn make(work: &mut [u64], s: Spot, node: TermNode, plain: bool, eaten: usize, hi
 }
 
 // An operand that begins with a sign.
-fn begin_sign(text: &[u8], work: &mut [u64], count: usize, s: Spot, d: u8) -> Turn
-    requires { (Ready text.now work.old count) × ((Room count s.nodes 0 s) × (toks text.now s.place ≡ sign d ∷ rest (toks text.now s.place))) }
+fn begin_sign(text: &[u8], work: &mut Work, count: usize, s: Spot, d: u8) -> Option<Turn>
+    requires ready { Ready text.now work.old count }
+    requires room { Room count s.nodes 0 s }
+    requires here { toks text.now s.place ≡ sign d ∷ rest (toks text.now s.place) }
     ensures { Pays text.now work.old work.new count s.nodes (effort count s) (Before text.now work.old s) result }
 {
     match d {
-        b'!' => push(work, s, Frame::Prefixed(Prefix::Not), 1),
-        b'-' => push(work, s, Frame::Prefixed(Prefix::Negative), 1),
-        b'(' => push(work, s, Frame::Group, 1),
-        b'$' => push(work, s, Frame::Dollar, 1),
-        _ => Turn::Failed,
+        b'!' => Some(push(work, s, Frame::Prefixed(Prefix::Not), 1)),
+        b'-' => Some(push(work, s, Frame::Prefixed(Prefix::Negative), 1)),
+        b'(' => Some(push(work, s, Frame::Group, 1)),
+        b'$' => Some(push(work, s, Frame::Dollar, 1)),
+        _ => None,
     }
 }
 
 // f( with its arguments, or f() with none.
-fn begin_call(text: &[u8], work: &mut [u64], count: usize, s: Spot, x: Name) -> Turn
-    requires { (Ready text.now work.old count) × ((Room count s.nodes 0 s) × (CallHere text.now s.place x)) }
-    ensures { Pays text.now work.old work.new count s.nodes (effort count s) (Before text.now work.old s) result }
+fn begin_call(text: &[u8], work: &mut Work, count: usize, s: Spot, x: Name) -> Turn
+    requires ready { Ready text.now work.old count }
+    requires room { Room count s.nodes 0 s }
+    requires here { CallHere text.now s.place x }
+    ensures { Pays text.now work.old work.new count s.nodes (effort count s) (Before text.now work.old s) (Some result) }
 {
     put_list(work, s.nodes, ListNode::Empty, true);
     let t = Spot {
-        place: s.place,
-        depth: s.depth,
         nodes: s.nodes + 1,
+        ..s
     };
     if is_sign(work, count, s.place + 2, b')') {
         make(work, t, TermNode::Call(x, s.nodes), false, 3, TIGHTEST)
@@ -72,9 +79,11 @@ fn begin_call(text: &[u8], work: &mut [u64], count: usize, s: Spot, x: Name) -> 
 }
 
 // An operand that begins with a name: an item, a call or a variable.
-fn begin_name(text: &[u8], work: &mut [u64], count: usize, s: Spot, x: Name) -> Turn
-    requires { (Ready text.now work.old count) × ((Room count s.nodes 0 s) × (NameHere text.now s.place x)) }
-    ensures { Pays text.now work.old work.new count s.nodes (effort count s) (Before text.now work.old s) result }
+fn begin_name(text: &[u8], work: &mut Work, count: usize, s: Spot, x: Name) -> Turn
+    requires ready { Ready text.now work.old count }
+    requires room { Room count s.nodes 0 s }
+    requires here { NameHere text.now s.place x }
+    ensures { Pays text.now work.old work.new count s.nodes (effort count s) (Before text.now work.old s) (Some result) }
 {
     if is_sign(work, count, s.place + 1, b'[') {
         push(work, s, Frame::Indexing(x), 2)
@@ -86,54 +95,55 @@ fn begin_name(text: &[u8], work: &mut [u64], count: usize, s: Spot, x: Name) -> 
 }
 
 // swap( with its pattern and the comma behind it.
-fn begin_swap(text: &[u8], work: &mut [u64], count: usize, s: Spot) -> Turn
-    requires { (Ready text.now work.old count) × ((Room count s.nodes 0 s) × ((toks text.now s.place ≡ word w_swap ∷ rest (toks text.now s.place)) × (sees 40 (toks text.now (s.place + 1)) ≡ true))) }
+fn begin_swap(text: &[u8], work: &mut Work, count: usize, s: Spot) -> Option<Turn>
+    requires ready { Ready text.now work.old count }
+    requires room { Room count s.nodes 0 s }
+    requires here { toks text.now s.place ≡ word w_swap ∷ rest (toks text.now s.place) }
+    requires opens { sees 40 (toks text.now (s.place + 1)) ≡ true }
     ensures { Pays text.now work.old work.new count s.nodes (effort count s) (Before text.now work.old s) result }
 {
-    match pattern_at(text, work, count, s.place + 2) {
-        Some(q) => {
-            if is_sign(work, count, s.place + 3, b',') {
-                push(work, s, Frame::SwapFirst(q), 4)
-            } else {
-                Turn::Failed
-            }
-        }
-        None => Turn::Failed,
+    let q = pattern_at(text, work, count, s.place + 2)?;
+    if is_sign(work, count, s.place + 3, b',') {
+        Some(push(work, s, Frame::SwapFirst(q), 4))
+    } else {
+        None
     }
 }
 
 // An operand that begins with a function that is built in; other reserved words begin none.
-fn begin_word(text: &[u8], work: &mut [u64], count: usize, s: Spot, k: Keyword) -> Turn
-    requires { (Ready text.now work.old count) × ((Room count s.nodes 0 s) × (toks text.now s.place ≡ word (spelled k) ∷ rest (toks text.now s.place))) }
+fn begin_word(text: &[u8], work: &mut Work, count: usize, s: Spot, k: Keyword) -> Option<Turn>
+    requires ready { Ready text.now work.old count }
+    requires room { Room count s.nodes 0 s }
+    requires here { toks text.now s.place ≡ word (spelled k) ∷ rest (toks text.now s.place) }
     ensures { Pays text.now work.old work.new count s.nodes (effort count s) (Before text.now work.old s) result }
 {
     if !is_sign(work, count, s.place + 1, b'(') {
-        return Turn::Failed;
+        return None;
     }
     match k {
-        Keyword::Length => push(work, s, Frame::Measuring(Prefix::Length), 2),
-        Keyword::Upper => push(work, s, Frame::Measuring(Prefix::Upper), 2),
-        Keyword::Index => push(work, s, Frame::IndexFirst, 2),
-        Keyword::Substr => push(work, s, Frame::PartFirst, 2),
-        Keyword::Split => push(work, s, Frame::SplitFirst, 2),
+        Keyword::Length => Some(push(work, s, Frame::Measuring(Prefix::Length), 2)),
+        Keyword::Upper => Some(push(work, s, Frame::Measuring(Prefix::Upper), 2)),
+        Keyword::Index => Some(push(work, s, Frame::IndexFirst, 2)),
+        Keyword::Substr => Some(push(work, s, Frame::PartFirst, 2)),
+        Keyword::Split => Some(push(work, s, Frame::SplitFirst, 2)),
         Keyword::Swap => begin_swap(text, work, count, s),
-        _ => Turn::Failed,
+        _ => None,
     }
 }
 
 // Begins to read an operand.
-fn begin(text: &[u8], work: &mut [u64], count: usize, s: Spot) -> Turn
-    requires { (Ready text.now work.old count) × (Room count s.nodes 0 s) }
+fn begin(text: &[u8], work: &mut Work, count: usize, s: Spot) -> Option<Turn>
+    requires ready { Ready text.now work.old count }
+    requires room { Room count s.nodes 0 s }
     ensures { Pays text.now work.old work.new count s.nodes (effort count s) (Before text.now work.old s) result }
 {
-    match peek(work, count, s.place) {
-        Token::Number(n) => make(work, s, TermNode::Number(n), true, 1, TIGHTEST),
-        Token::Quoted(start) => make(work, s, TermNode::Text(start), true, 1, TIGHTEST),
-        Token::Name(x) => begin_name(text, work, count, s, x),
+    match peek(work, count, s.place)? {
+        Token::Number(n) => Some(make(work, s, TermNode::Number(n), true, 1, TIGHTEST)),
+        Token::Quoted(start) => Some(make(work, s, TermNode::Text(start), true, 1, TIGHTEST)),
+        Token::Name(x) => Some(begin_name(text, work, count, s, x)),
         Token::Keyword(k) => begin_word(text, work, count, s, k),
         Token::Sign(d) => begin_sign(text, work, count, s, d),
-        Token::Over => Turn::Failed,
-        Token::Bad => Turn::Failed,
+        Token::Bad => None,
     }
 }
 
@@ -142,7 +152,7 @@ fn level(token: Token, place: bool) -> u64
     ensures { result ≡ level_at token place }
 {
     match token {
-        Token::Sign(b'=') => flag_of(place),
+        Token::Sign(b'=') => u64::from(place),
         Token::Sign(6) => 2,
         Token::Sign(5) => 3,
         Token::Sign(b'~' | 7) | Token::Keyword(Keyword::In) => 4,
@@ -185,8 +195,8 @@ fn operator(token: Token) -> Operator
 }
 
 // The loosest level that may go on within what was begun last.
-fn low(work: &[u64], depth: usize) -> u64
-    requires { (length work.now ≡ 179200) × (depth ≤ 4096) }
+fn low(work: &Work, depth: usize) -> u64
+    requires { depth ≤ 4096 }
     ensures { result ≡ low_at work.now depth }
 {
     if depth == 0 {
@@ -200,132 +210,105 @@ fn low(work: &[u64], depth: usize) -> u64
 }
 
 // Whether what binds at a level goes on here, behind an operand to which up to `high` may bind.
-fn binds(work: &[u64], depth: usize, level: u64, high: u64) -> bool
-    requires { (length work.now ≡ 179200) × (depth ≤ 4096) }
+fn binds(work: &Work, depth: usize, level: u64, high: u64) -> bool
+    requires { depth ≤ 4096 }
     ensures { result ≡ (nat_le (suc (low_at work.now depth)) level && nat_le level high) }
 {
     low(work, depth) < level && level <= high
 }
 
-// Behind ~ with a pattern.
+// Behind ~ or !~ with a pattern; a !~ is a ~ that is negated.
 fn bind_like(
     text: &[u8],
-    work: &mut [u64],
+    work: &mut Work,
     count: usize,
     s: Spot,
     node: usize,
-    high: u64,
-    token: Token,
-    level: u64,
-) -> Turn
-    requires { (Ready text.now work.old count) × ((Room count s.nodes 1 s) × ((Binds text.now work.old s node high token level) × ((level ≡ 4) × (sees 126 (toks text.now s.place) ≡ true)))) }
-    ensures { Pays text.now work.old work.new count s.nodes (effort count s + 3) (Behind text.now work.old s node high) result }
+    negated: bool,
+) -> Option<Turn>
+    requires ready { Ready text.now work.old count }
+    requires room { Room count s.nodes 1 s }
+    requires here { LikeSign (toks text.now s.place) negated }
+    ensures { (h : ℕ) (t : Token) → Binds text.now work.old s node h t 4 → Pays text.now work.old work.new count s.nodes (effort count s + 3) (Behind text.now work.old s node h) result }
 {
-    match pattern_at(text, work, count, s.place + 1) {
-        Some(q) => make(work, s, TermNode::Like(node, q), false, 2, 3),
-        None => Turn::Failed,
+    let q = pattern_at(text, work, count, s.place + 1)?;
+    let like = TermNode::Like(node, q);
+    if !negated {
+        return Some(make(work, s, like, false, 2, 3));
     }
-}
-
-// Behind !~ with a pattern: a ~ that is negated.
-fn bind_unlike(
-    text: &[u8],
-    work: &mut [u64],
-    count: usize,
-    s: Spot,
-    node: usize,
-    high: u64,
-    token: Token,
-    level: u64,
-) -> Turn
-    requires { (Ready text.now work.old count) × ((Room count s.nodes 1 s) × ((Binds text.now work.old s node high token level) × ((level ≡ 4) × ((sees 126 (toks text.now s.place) ≡ false) × (sees 7 (toks text.now s.place) ≡ true))))) }
-    ensures { Pays text.now work.old work.new count s.nodes (effort count s + 3) (Behind text.now work.old s node high) result }
-{
-    match pattern_at(text, work, count, s.place + 1) {
-        Some(q) => {
-            put_term(work, s.nodes, TermNode::Like(node, q), false);
-            let t = Spot {
-                place: s.place,
-                depth: s.depth,
-                nodes: s.nodes + 1,
-            };
-            make(work, t, TermNode::Unary(Prefix::Not, s.nodes), false, 2, 3)
-        }
-        None => Turn::Failed,
-    }
+    put_term(work, s.nodes, like, false);
+    let t = Spot {
+        nodes: s.nodes + 1,
+        ..s
+    };
+    Some(make(work, t, TermNode::Unary(Prefix::Not, s.nodes), false, 2, 3))
 }
 
 // Behind in with a table's name.
-fn bind_in(
-    text: &[u8],
-    work: &mut [u64],
-    count: usize,
-    s: Spot,
-    node: usize,
-    high: u64,
-    token: Token,
-    level: u64,
-) -> Turn
-    requires { (Ready text.now work.old count) × ((Room count s.nodes 1 s) × ((Binds text.now work.old s node high token level) × ((level ≡ 4) × ((sees 126 (toks text.now s.place) ≡ false) × (sees 7 (toks text.now s.place) ≡ false))))) }
-    ensures { Pays text.now work.old work.new count s.nodes (effort count s + 3) (Behind text.now work.old s node high) result }
+fn bind_in(text: &[u8], work: &mut Work, count: usize, s: Spot, node: usize) -> Option<Turn>
+    requires ready { Ready text.now work.old count }
+    requires room { Room count s.nodes 1 s }
+    requires no_like { sees 126 (toks text.now s.place) ≡ false }
+    requires no_unlike { sees 7 (toks text.now s.place) ≡ false }
+    ensures { (h : ℕ) (t : Token) → Binds text.now work.old s node h t 4 → Pays text.now work.old work.new count s.nodes (effort count s + 3) (Behind text.now work.old s node h) result }
 {
-    match name_at(work, count, s.place + 1) {
-        Some(x) => make(work, s, TermNode::There(node, x), false, 2, 3),
-        None => Turn::Failed,
-    }
+    let x = name_at(work, count, s.place + 1)?;
+    Some(make(work, s, TermNode::There(node, x), false, 2, 3))
 }
 
 // Behind an operand, to which a token binds at a level.
 fn bind(
     text: &[u8],
-    work: &mut [u64],
+    work: &mut Work,
     count: usize,
     s: Spot,
     node: usize,
-    high: u64,
     token: Token,
     level: u64,
-) -> Turn
-    requires { (Ready text.now work.old count) × ((Room count s.nodes 1 s) × (Binds text.now work.old s node high token level)) }
-    ensures { Pays text.now work.old work.new count s.nodes (effort count s + 3) (Behind text.now work.old s node high) result }
+) -> Option<Turn>
+    requires ready { Ready text.now work.old count }
+    requires room { Room count s.nodes 1 s }
+    ensures { (h : ℕ) → Binds text.now work.old s node h token level → Pays text.now work.old work.new count s.nodes (effort count s + 3) (Behind text.now work.old s node h) result }
 {
     match level {
-        1 => push(work, s, Frame::Assigning(node), 1),
+        1 => Some(push(work, s, Frame::Assigning(node), 1)),
         4 => {
             if is_sign(work, count, s.place, b'~') {
-                bind_like(text, work, count, s, node, high, token, level)
+                bind_like(text, work, count, s, node, false)
             } else if is_sign(work, count, s.place, 7) {
-                bind_unlike(text, work, count, s, node, high, token, level)
+                bind_like(text, work, count, s, node, true)
             } else {
-                bind_in(text, work, count, s, node, high, token, level)
+                bind_in(text, work, count, s, node)
             }
         }
-        6 => push(work, s, Frame::Infix(6, Operator::Join, node), 0),
-        _ => push(work, s, Frame::Infix(level, operator(token), node), 1),
+        6 => Some(push(work, s, Frame::Infix(6, Operator::Join, node), 0)),
+        _ => Some(push(work, s, Frame::Infix(level, operator(token), node), 1)),
     }
 }
 
 // A node behind a closing sign.
-fn close(work: &mut [u64], count: usize, s: Spot, c: u8, node: TermNode, plain: bool) -> Turn
-    requires { (length work.old ≡ 179200) × ((s.nodes < 25600) × (s.place ≤ 4096)) }
+fn close(work: &mut Work, count: usize, s: Spot, c: u8, node: TermNode, plain: bool) -> Option<Turn>
+    requires nodes { s.nodes < 25600 }
+    requires place { s.place ≤ 4096 }
     ensures { (bs : List ℕ) → TokensIn bs work.old count → Closing work.old work.new s node plain result (sees c (toks bs s.place)) }
 {
     if is_sign(work, count, s.place, c) {
-        make(work, s, node, plain, 1, TIGHTEST)
+        Some(make(work, s, node, plain, 1, TIGHTEST))
     } else {
-        Turn::Failed
+        None
     }
 }
 
 // A frame behind a comma.
-fn part(work: &mut [u64], count: usize, s: Spot, frame: Frame) -> Turn
-    requires { (length work.old ≡ 179200) × ((s.depth ≤ 4096) × (s.place ≤ 4096)) }
+fn part(work: &mut Work, count: usize, s: Spot, frame: Frame) -> Option<Turn>
+    requires depth { s.depth ≤ 4096 }
+    requires place { s.place ≤ 4096 }
     ensures { (bs : List ℕ) → TokensIn bs work.old count → Parting work.old work.new s frame result (sees 44 (toks bs s.place)) }
 {
     if is_sign(work, count, s.place, b',') {
-        push(work, s, frame, 1)
+        Some(push(work, s, frame, 1))
     } else {
-        Turn::Failed
+        None
     }
 }
 
@@ -340,16 +323,14 @@ fn high_of(level: u64) -> u64
 }
 
 // Whether two nodes are of the core.
-pub fn both_plain(work: &[u64], a: usize, b: usize) -> bool
-    requires { length work.now ≡ 179200 }
+pub fn both_plain(work: &Work, a: usize, b: usize) -> bool
     ensures { result ≡ ((cell work.now a).flag == 1 && (cell work.now b).flag == 1) }
 {
     is_plain(work, a) && is_plain(work, b)
 }
 
 // Whether an operator with these sides is of the core.
-fn infix_plain(work: &[u64], o: Operator, a: usize, b: usize) -> bool
-    requires { length work.now ≡ 179200 }
+fn infix_plain(work: &Work, o: Operator, a: usize, b: usize) -> bool
     ensures { result ≡ (not (operator_number o == 12) && ((cell work.now a).flag == 1 && (cell work.now b).flag == 1)) }
 {
     match o {
@@ -359,58 +340,52 @@ fn infix_plain(work: &[u64], o: Operator, a: usize, b: usize) -> bool
 }
 
 // Whether what stands before an operand is of the core with it.
-fn prefix_plain(work: &[u64], p: Prefix, a: usize) -> bool
-    requires { length work.now ≡ 179200 }
+fn prefix_plain(work: &Work, p: Prefix, a: usize) -> bool
     ensures { result ≡ (nat_le (prefix_number p) 1 && (cell work.now a).flag == 1) }
 {
     match p {
-        Prefix::Not => is_plain(work, a),
-        Prefix::Negative => is_plain(work, a),
-        Prefix::Length => false,
-        Prefix::Upper => false,
+        Prefix::Not | Prefix::Negative => is_plain(work, a),
+        Prefix::Length | Prefix::Upper => false,
     }
 }
 
 // Ends a bracket around an expression.
-fn finish_group(text: &[u8], work: &mut [u64], count: usize, s: Spot, node: usize) -> Turn
-    requires { (Ready text.now work.old count) × ((Room count s.nodes 1 s) × (OnTop work.old s Group)) }
-    ensures { Pays text.now work.old work.new count s.nodes (effort count s + 3) (Ended text.now work.old s node) result }
+fn finish_group(text: &[u8], work: &Work, count: usize, s: Spot, node: usize) -> Option<Turn>
+    requires ready { Ready text.now work.now count }
+    requires room { Room count s.nodes 1 s }
+    requires here { OnTop work.now s Group }
+    ensures { Pays text.now work.now work.now count s.nodes (effort count s + 3) (Ended text.now work.now s node) result }
 {
     if !is_sign(work, count, s.place, b')') {
-        return Turn::Failed;
+        return None;
     }
-    Turn::After(
-        Spot {
-            place: s.place + 1,
-            depth: s.depth - 1,
-            nodes: s.nodes,
-        },
-        node,
-        TIGHTEST,
-    )
+    let t = Spot {
+        place: s.place + 1,
+        depth: s.depth - 1,
+        ..s
+    };
+    Some(Turn::After(t, node, TIGHTEST))
 }
 
 // Ends the first operand of split: the table's name, the pattern and the bracket follow.
-fn finish_split(text: &[u8], work: &mut [u64], count: usize, s: Spot, node: usize) -> Turn
-    requires { (Ready text.now work.old count) × ((Room count s.nodes 1 s) × (OnTop work.old s SplitFirst)) }
+fn finish_split(text: &[u8], work: &mut Work, count: usize, s: Spot, node: usize) -> Option<Turn>
+    requires ready { Ready text.now work.old count }
+    requires room { Room count s.nodes 1 s }
+    requires here { OnTop work.old s SplitFirst }
     ensures { Pays text.now work.old work.new count s.nodes (effort count s + 3) (Ended text.now work.old s node) result }
 {
     if !is_sign(work, count, s.place, b',') {
-        return Turn::Failed;
+        return None;
     }
-    let Some(x) = name_at(work, count, s.place + 1) else {
-        return Turn::Failed;
-    };
+    let x = name_at(work, count, s.place + 1)?;
     if !is_sign(work, count, s.place + 2, b',') {
-        return Turn::Failed;
+        return None;
     }
-    let Some(q) = pattern_at(text, work, count, s.place + 3) else {
-        return Turn::Failed;
-    };
+    let q = pattern_at(text, work, count, s.place + 3)?;
     let t = Spot {
         place: s.place + 4,
         depth: s.depth - 1,
-        nodes: s.nodes,
+        ..s
     };
     close(work, count, t, b')', TermNode::Split(node, x, q), false)
 }
@@ -418,25 +393,27 @@ fn finish_split(text: &[u8], work: &mut [u64], count: usize, s: Spot, node: usiz
 // Ends an argument of a call: another one follows, or the bracket.
 fn finish_argument(
     text: &[u8],
-    work: &mut [u64],
+    work: &mut Work,
     count: usize,
     s: Spot,
     node: usize,
     x: Name,
     list: usize,
-) -> Turn
-    requires { (Ready text.now work.old count) × ((Room count s.nodes 1 s) × (OnTop work.old s (Arguments x list))) }
+) -> Option<Turn>
+    requires ready { Ready text.now work.old count }
+    requires room { Room count s.nodes 1 s }
+    requires here { OnTop work.old s (Arguments x list) }
     ensures { Pays text.now work.old work.new count s.nodes (effort count s + 3) (Ended text.now work.old s node) result }
 {
     let plain = both_plain(work, list, node);
     put_list(work, s.nodes, ListNode::More(list, node), plain);
     let t = Spot {
-        place: s.place,
         depth: s.depth - 1,
         nodes: s.nodes + 1,
+        ..s
     };
     if is_sign(work, count, s.place, b',') {
-        push(work, t, Frame::Arguments(x, s.nodes), 1)
+        Some(push(work, t, Frame::Arguments(x, s.nodes), 1))
     } else {
         close(work, count, t, b')', TermNode::Call(x, s.nodes), false)
     }
@@ -445,63 +422,58 @@ fn finish_argument(
 // Ends the last operand of swap, which has to be a place.
 fn finish_swap(
     text: &[u8],
-    work: &mut [u64],
+    work: &mut Work,
     count: usize,
     s: Spot,
     node: usize,
     q: usize,
     by: usize,
-) -> Turn
-    requires { (Ready text.now work.old count) × ((Room count s.nodes 1 s) × (OnTop work.old s (SwapSecond q by))) }
+) -> Option<Turn>
+    requires ready { Ready text.now work.old count }
+    requires room { Room count s.nodes 1 s }
+    requires here { OnTop work.old s (SwapSecond q by) }
     ensures { Pays text.now work.old work.new count s.nodes (effort count s + 3) (Ended text.now work.old s node) result }
 {
     if !is_place(work, node) {
-        return Turn::Failed;
+        return None;
     }
     let t = Spot {
-        place: s.place,
         depth: s.depth - 1,
-        nodes: s.nodes,
+        ..s
     };
     close(work, count, t, b')', TermNode::Swap(q, by, node), false)
 }
 
 // Ends what was begun last, with its operand.
-fn finish(text: &[u8], work: &mut [u64], count: usize, s: Spot, node: usize) -> Turn
-    requires { (Ready text.now work.old count) × (Room count s.nodes 1 s) }
+fn finish(text: &[u8], work: &mut Work, count: usize, s: Spot, node: usize) -> Option<Turn>
+    requires ready { Ready text.now work.old count }
+    requires room { Room count s.nodes 1 s }
     ensures { Pays text.now work.old work.new count s.nodes (effort count s + 3) (Ended text.now work.old s node) result }
 {
     if s.depth == 0 {
-        return Turn::Done(s, node);
+        return Some(Turn::Done(s, node));
     }
     let t = Spot {
-        place: s.place,
         depth: s.depth - 1,
-        nodes: s.nodes,
+        ..s
     };
     match frame_at(work, t.depth) {
         Frame::Infix(level, o, left) => {
             let plain = infix_plain(work, o, left, node);
-            make(
-                work,
-                t,
-                TermNode::Binary(o, left, node),
-                plain,
-                0,
-                high_of(level),
-            )
+            let high = high_of(level);
+            Some(make(work, t, TermNode::Binary(o, left, node), plain, 0, high))
         }
         Frame::Prefixed(p) => {
             let plain = prefix_plain(work, p, node);
-            make(work, t, TermNode::Unary(p, node), plain, 0, TIGHTEST)
+            Some(make(work, t, TermNode::Unary(p, node), plain, 0, TIGHTEST))
         }
         Frame::Dollar => {
             let plain = is_plain(work, node);
-            make(work, t, TermNode::Field(node), plain, 0, TIGHTEST)
+            Some(make(work, t, TermNode::Field(node), plain, 0, TIGHTEST))
         }
         Frame::Assigning(left) => {
             let plain = both_plain(work, left, node);
-            make(work, t, TermNode::Assign(left, node), plain, 0, 0)
+            Some(make(work, t, TermNode::Assign(left, node), plain, 0, 0))
         }
         Frame::Group => finish_group(text, work, count, s, node),
         Frame::Indexing(x) => close(work, count, t, b']', TermNode::Item(x, node), false),
@@ -526,17 +498,25 @@ fn finish(text: &[u8], work: &mut [u64], count: usize, s: Spot, node: usize) -> 
 }
 
 // Goes on behind an operand.
-fn go_on(text: &[u8], work: &mut [u64], count: usize, s: Spot, node: usize, high: u64) -> Turn
-    requires { (Ready text.now work.old count) × (Room count s.nodes 1 s) }
+fn go_on(
+    text: &[u8],
+    work: &mut Work,
+    count: usize,
+    s: Spot,
+    node: usize,
+    high: u64,
+) -> Option<Turn>
+    requires ready { Ready text.now work.old count }
+    requires room { Room count s.nodes 1 s }
     ensures { Pays text.now work.old work.new count s.nodes (effort count s + 3) (Behind text.now work.old s node high) result }
 {
-    let token = peek(work, count, s.place);
-    let here = level(token, is_place(work, node));
-    if binds(work, s.depth, here, high) {
-        bind(text, work, count, s, node, high, token, here)
-    } else {
-        finish(text, work, count, s, node)
+    if let Some(token) = peek(work, count, s.place) {
+        let level = level(token, is_place(work, node));
+        if binds(work, s.depth, level, high) {
+            return bind(text, work, count, s, node, token, level);
+        }
     }
+    finish(text, work, count, s, node)
 }
 
 // What was read: its node, the token behind it, and the first cell that is free then.
@@ -550,12 +530,13 @@ pub struct Parsed {
 // Reads an expression from a place on, unless there is none.
 pub fn read_term(
     text: &[u8],
-    work: &mut [u64],
+    work: &mut Work,
     count: usize,
     place: usize,
     nodes: usize,
 ) -> Option<Parsed>
-    requires { (Ready text.now work.old count) × (Start count place nodes) }
+    requires ready { Ready text.now work.old count }
+    requires start { Start count place nodes }
     ensures read { TermRead text.now work.old work.new count place nodes result }
     ensures paid { Paid place nodes result }
 {
@@ -566,14 +547,13 @@ pub fn read_term(
     });
     loop {
         match turn {
-            Turn::Operand(s) => turn = begin(text, work, count, s),
-            Turn::After(s, node, high) => turn = go_on(text, work, count, s, node, high),
+            Turn::Operand(s) => turn = begin(text, work, count, s)?,
+            Turn::After(s, node, high) => turn = go_on(text, work, count, s, node, high)?,
             Turn::Done(s, node) => return Some(Parsed {
                 node,
                 place: s.place,
                 nodes: s.nodes,
             }),
-            Turn::Failed => return None,
         }
     }
 }

@@ -4,6 +4,7 @@ pub use Rattle.lexer.specs.Ends
 pub use Rattle.lexer.specs.Marks
 pub use Rattle.lexer.specs.Memory
 pub use Rattle.lexer.specs.Places
+pub use Rattle.lexer.specs.Quotes
 pub use Rattle.lexer.specs.Scanning
 pub use Rattle.parser.specs.Frames
 pub use Rattle.parser.specs.Levels

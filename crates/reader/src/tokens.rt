@@ -1,2 +1,2 @@
 // A program's text as tokens.
-pub use lexer::tokens::{Class, Digits, Keyword, Name, Piece, Token, cut, peek, spells};
+pub use lexer::tokens::{Class, Keyword, Name, Piece, Token, cut, peek, spells};

@@ -13,10 +13,10 @@ returns-in-Number c =
     let bs = c.args.text.now in
     let p = c.args.s.place in
     let k = c.in-Number.n in
-    let e = c.in-Number.ensures bs c.requires.0.tokens in
-    let a : p < c.args.count = ahead bs c.args.work.now c.args.count p (number k) (rest (toks bs p)) c.requires.0.tokens e in
-    begin_make bs c.args.work.now c.make.new.work c.args.count c.args.s c.requires.1 _ true 1 c.make.result c.make.ensures (omega arith) (omega arith) (num k)
-    (made_num bs c.args.work.now c.make.new.work c.args.s.nodes c.requires.1.low k c.make.ensures.made)
+    let e = rw c.in-Number.is at (c.in_ok-n.ensures bs c.requires.ready.tokens) in
+    let a : p < c.args.count = ahead bs c.args.work.now c.args.count p (number k) (rest (toks bs p)) c.requires.ready.tokens e in
+    begin_make bs c.args.work.now c.make.new.work c.args.count c.args.s c.requires.room _ true 1 c.make.result c.make.ensures (omega arith) (omega arith) (num k)
+    (made_num bs c.args.work.now c.make.new.work c.args.s.nodes c.requires.room.low k c.make.ensures.made)
     (λ fs l. first_token bs p (number k) (λ us. before (fuel bs) fs us) (λ us. behind (fuel bs) fs 8 (num k) us) e (op_number (fuel bs) fs l k))
 
 pub returns-in-Quoted : goal.returns-in-Quoted
@@ -25,35 +25,34 @@ returns-in-Quoted c =
     let p = c.args.s.place in
     let q = c.in-Quoted.start in
     let b = quote_part (drop q bs) in
-    let e = c.in-Quoted.ensures bs c.requires.0.tokens in
-    let a : p < c.args.count = ahead bs c.args.work.now c.args.count p (quoted b) (rest (toks bs p)) c.requires.0.tokens e.0 in
-    begin_make bs c.args.work.now c.make-in-Quoted.new.work c.args.count c.args.s c.requires.1 _ true 1 c.make-in-Quoted.result c.make-in-Quoted.ensures (omega arith) (omega arith) (txt b)
-    (made_txt bs c.args.work.now c.make-in-Quoted.new.work c.args.s.nodes c.requires.1.low q b (record { inside = e.1; is = refl }) c.make-in-Quoted.ensures.made)
+    let e = rw c.in-Quoted.is at (c.in_ok-n.ensures bs c.requires.ready.tokens) in
+    let a : p < c.args.count = ahead bs c.args.work.now c.args.count p (quoted b) (rest (toks bs p)) c.requires.ready.tokens e.0 in
+    begin_make bs c.args.work.now c.make-in-Quoted.new.work c.args.count c.args.s c.requires.room _ true 1 c.make-in-Quoted.result c.make-in-Quoted.ensures (omega arith) (omega arith) (txt b)
+    (made_txt bs c.args.work.now c.make-in-Quoted.new.work c.args.s.nodes c.requires.room.low q b (record { inside = e.1; is = refl }) c.make-in-Quoted.ensures.made)
     (λ fs l. first_token bs p (quoted b) (λ us. before (fuel bs) fs us) (λ us. behind (fuel bs) fs 8 (txt b) us) e.0 (op_text (fuel bs) fs l b))
 
-pub begin_name-requires : goal.begin_name-requires
-begin_name-requires c =
-    let e = c.in-Name.ensures c.args.text.now c.requires.0.tokens in
-    (c.requires.0, (c.requires.1, record { is = e.0; fresh = e.1; inside = e.2 }))
+pub begin_name-requires-clause-here : goal.begin_name-requires-clause-here
+begin_name-requires-clause-here c =
+    let e = rw c.in-Name.is at (c.in_ok-n.ensures c.args.text.now c.requires.ready.tokens) in
+    record { is = e.0; fresh = e.1; inside = e.2 }
 
-pub begin_word-requires : goal.begin_word-requires
-begin_word-requires c = (c.requires.0, (c.requires.1, c.in-Keyword.ensures c.args.text.now c.requires.0.tokens))
+pub begin_word-requires-clause-here : goal.begin_word-requires-clause-here
+begin_word-requires-clause-here c = rw c.in-Keyword.is at (c.in_ok-n.ensures c.args.text.now c.requires.ready.tokens)
 
-pub begin_sign-requires : goal.begin_sign-requires
-begin_sign-requires c = (c.requires.0, (c.requires.1, c.in-Sign.ensures c.args.text.now c.requires.0.tokens))
+pub begin_sign-requires-clause-here : goal.begin_sign-requires-clause-here
+begin_sign-requires-clause-here c = rw c.in-Sign.is at (c.in_ok-n.ensures c.args.text.now c.requires.ready.tokens)
 
-pub returns-in-Over : goal.returns-in-Over
-returns-in-Over c =
+pub returns-in_err-n : goal.returns-in_err-n
+returns-in_err-n c =
     let bs = c.args.text.now in
-    let p = c.args.s.place in
-    let e = c.in-Over.ensures bs c.requires.0.tokens in
-    begin_fail bs c.args.work.now c.args.count c.args.s
-    (λ fs l. ap (λ us. before (fuel bs) fs us) e ∙ op_over (fuel bs) fs l (omega arith))
+    let e = c.in_err-n.ensures bs c.requires.ready.tokens in
+    rw c.from_residual.ensures (begin_fail bs c.args.work.now c.args.count c.args.s
+    (λ fs l. ap (λ us. before (fuel bs) fs us) e ∙ op_over (fuel bs) fs l (omega arith)))
 
 pub returns-in-Bad : goal.returns-in-Bad
 returns-in-Bad c =
     let bs = c.args.text.now in
     let p = c.args.s.place in
-    let e = c.in-Bad.ensures bs c.requires.0.tokens in
+    let e = rw c.in-Bad.is at (c.in_ok-n.ensures bs c.requires.ready.tokens) in
     begin_fail bs c.args.work.now c.args.count c.args.s
     (λ fs l. first_token bs p bad (λ us. before (fuel bs) fs us) (λ us. none) e (op_bad (fuel bs) fs l))

@@ -15,32 +15,32 @@ returns-then-is_sign c =
     let bs = c.args.text.now in
     let p = c.args.s.place in
     let x = bytes_of bs c.args.x in
-    let k = c.requires.0.tokens in
-    let here = c.requires.1.1 in
+    let k = c.requires.ready.tokens in
+    let here = c.requires.here in
     let t : sees 91 (toks bs (p + 1)) ≡ true = sym (c.if-is_sign.ensures bs k) in
     let a : p + 1 < c.args.count = sees_ahead bs c.args.work.now c.args.count (p + 1) 91 k t in
-    begin_push bs c.args.work.now c.push.new.work c.args.count c.args.s c.requires.1.0 _ 2 c.push.result c.push.ensures (omega arith) (omega arith) (in_item x)
+    begin_push bs c.args.work.now c.push.new.work c.args.count c.args.s c.requires.room _ 2 c.push.result c.push.ensures (omega arith) (omega arith) (in_item x)
     (x, record { inside = here.inside; is = refl }, refl)
     (λ fs l. ap (λ us. before (fuel bs) fs us) here.is ∙ op_item (fuel bs) fs l x (rest (toks bs p)) (enough_here bs p here.is) here.fresh (ap (sees 91) (rest_toks bs p) ∙ t)
     ∙ ap (λ us. before (fuel bs) (in_item x ∷ fs) us) (ap rest (rest_toks bs p) ∙ rest_two bs p))
 
-pub begin_call-requires : goal.begin_call-requires
-begin_call-requires c =
+pub begin_call-requires-clause-here : goal.begin_call-requires-clause-here
+begin_call-requires-clause-here c =
     let bs = c.args.text.now in
-    let k = c.requires.0.tokens in
-    (c.requires.0, (c.requires.1.0, record { name = c.requires.1.1; no_item = sym (c.if-is_sign.ensures bs k); calls = sym (c.if-is_sign-2.ensures bs k) }))
+    let k = c.requires.ready.tokens in
+    record { name = c.requires.here; no_item = sym (c.if-is_sign.ensures bs k); calls = sym (c.if-is_sign-2.ensures bs k) }
 
 pub returns-else-is_sign-2 : goal.returns-else-is_sign-2
 returns-else-is_sign-2 c =
     let bs = c.args.text.now in
     let p = c.args.s.place in
     let x = bytes_of bs c.args.x in
-    let k = c.requires.0.tokens in
-    let here = c.requires.1.1 in
+    let k = c.requires.ready.tokens in
+    let here = c.requires.here in
     let t : sees 91 (toks bs (p + 1)) ≡ false = sym (c.if-is_sign.ensures bs k) in
     let u : sees 40 (toks bs (p + 1)) ≡ false = sym (c.if-is_sign-2.ensures bs k) in
     let a : p < c.args.count = ahead bs c.args.work.now c.args.count p (word x) (rest (toks bs p)) k here.is in
-    begin_make bs c.args.work.now c.make.new.work c.args.count c.args.s c.requires.1.0 _ true 1 c.make.result c.make.ensures (omega arith) (omega arith) (var x)
-    (made_var bs c.args.work.now c.make.new.work c.args.s.nodes c.requires.1.0.low c.args.x x (record { inside = here.inside; is = refl }) c.make.ensures.made)
+    begin_make bs c.args.work.now c.make.new.work c.args.count c.args.s c.requires.room _ true 1 c.make.result c.make.ensures (omega arith) (omega arith) (var x)
+    (made_var bs c.args.work.now c.make.new.work c.args.s.nodes c.requires.room.low c.args.x x (record { inside = here.inside; is = refl }) c.make.ensures.made)
     (λ fs l. ap (λ us. before (fuel bs) fs us) here.is ∙ op_var (fuel bs) fs l x (rest (toks bs p)) (enough_here bs p here.is) here.fresh (ap (sees 91) (rest_toks bs p) ∙ t) (ap (sees 40) (rest_toks bs p) ∙ u)
     ∙ ap (λ us. behind (fuel bs) fs 8 (var x) us) (rest_toks bs p))

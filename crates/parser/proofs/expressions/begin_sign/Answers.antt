@@ -13,25 +13,25 @@ pub returns-in-33 : goal.returns-in-33
 unfolding FrameSays
 returns-in-33 c =
     let bs = c.args.text.now in
-    begin_sign bs c.args.work.now c.push.new.work c.args.count c.args.s c.requires.1.0 33 _ c.push.result c.requires.0.tokens c.push.ensures (here bs c.args.s.place c.args.d 33 c.in-33.is c.requires.1.1) (in_un 0) refl (op_not (fuel bs))
+    begin_sign bs c.args.work.now c.push.new.work c.args.count c.args.s c.requires.room 33 _ c.push.result c.requires.ready.tokens c.push.ensures (here bs c.args.s.place c.args.d 33 c.in-33.is c.requires.here) (in_un 0) refl (op_not (fuel bs))
 
 pub returns-in-45 : goal.returns-in-45
 unfolding FrameSays
 returns-in-45 c =
     let bs = c.args.text.now in
-    begin_sign bs c.args.work.now c.push-in-45.new.work c.args.count c.args.s c.requires.1.0 45 _ c.push-in-45.result c.requires.0.tokens c.push-in-45.ensures (here bs c.args.s.place c.args.d 45 c.in-45.is c.requires.1.1) (in_un 1) refl (op_minus (fuel bs))
+    begin_sign bs c.args.work.now c.push-in-45.new.work c.args.count c.args.s c.requires.room 45 _ c.push-in-45.result c.requires.ready.tokens c.push-in-45.ensures (here bs c.args.s.place c.args.d 45 c.in-45.is c.requires.here) (in_un 1) refl (op_minus (fuel bs))
 
 pub returns-in-40 : goal.returns-in-40
 unfolding FrameSays
 returns-in-40 c =
     let bs = c.args.text.now in
-    begin_sign bs c.args.work.now c.push-in-40.new.work c.args.count c.args.s c.requires.1.0 40 _ c.push-in-40.result c.requires.0.tokens c.push-in-40.ensures (here bs c.args.s.place c.args.d 40 c.in-40.is c.requires.1.1) in_brackets refl (op_group (fuel bs))
+    begin_sign bs c.args.work.now c.push-in-40.new.work c.args.count c.args.s c.requires.room 40 _ c.push-in-40.result c.requires.ready.tokens c.push-in-40.ensures (here bs c.args.s.place c.args.d 40 c.in-40.is c.requires.here) in_brackets refl (op_group (fuel bs))
 
 pub returns-in-36 : goal.returns-in-36
 unfolding FrameSays
 returns-in-36 c =
     let bs = c.args.text.now in
-    begin_sign bs c.args.work.now c.push-in-36.new.work c.args.count c.args.s c.requires.1.0 36 _ c.push-in-36.result c.requires.0.tokens c.push-in-36.ensures (here bs c.args.s.place c.args.d 36 c.in-36.is c.requires.1.1) in_field refl (op_field (fuel bs))
+    begin_sign bs c.args.work.now c.push-in-36.new.work c.args.count c.args.s c.requires.room 36 _ c.push-in-36.result c.requires.ready.tokens c.push-in-36.ensures (here bs c.args.s.place c.args.d 36 c.in-36.is c.requires.here) in_field refl (op_field (fuel bs))
 
 pub returns-in_default : goal.returns-in_default
 returns-in_default c =
@@ -39,4 +39,4 @@ returns-in_default c =
     let p = c.args.s.place in
     let d = c.args.d in
     begin_fail bs c.args.work.now c.args.count c.args.s
-    (λ fs l. first_token bs p (sign d) (λ us. before (fuel bs) fs us) (λ us. none) c.requires.1.1 (λ us e. op_no_sign (fuel bs) fs l d us e (ne_eqb 33 d (λ z. omega arith)) (ne_eqb 45 d (λ z. omega arith)) (ne_eqb d 40 (λ z. omega arith)) (ne_eqb d 36 (λ z. omega arith))))
+    (λ fs l. first_token bs p (sign d) (λ us. before (fuel bs) fs us) (λ us. none) c.requires.here (λ us e. op_no_sign (fuel bs) fs l d us e (ne_eqb 33 d (λ z. omega arith)) (ne_eqb 45 d (λ z. omega arith)) (ne_eqb d 40 (λ z. omega arith)) (ne_eqb d 36 (λ z. omega arith))))

@@ -15,8 +15,8 @@ pub returns-then-not-is_sign : goal.returns-then-not-is_sign
 returns-then-not-is_sign c =
     let bs = c.args.text.now in
     let p = c.args.s.place in
-    let e = c.requires.1.1 in
-    let t : sees 40 (rest (toks bs p)) ≡ false = ap (sees 40) (rest_toks bs p) ∙ sym (c.if-not-is_sign.ensures bs c.requires.0.tokens) in
+    let e = c.requires.here in
+    let t : sees 40 (rest (toks bs p)) ≡ false = ap (sees 40) (rest_toks bs p) ∙ sym (c.if-not-is_sign.ensures bs c.requires.ready.tokens) in
     begin_fail bs c.args.work.now c.args.count c.args.s (λ fs l. ap (λ us. before (fuel bs) fs us) e ∙ bare_word (fuel bs) fs l c.args.k (rest (toks bs p)) (enough_here bs p e) t)
 
 -- the word that is there, once it is known which one
@@ -27,49 +27,48 @@ pub returns-in-Length : goal.returns-in-Length
 unfolding FrameSays spelled
 returns-in-Length c =
     let bs = c.args.text.now in
-    let k = c.requires.0.tokens in
-    begin_built_in bs c.args.work.now c.push.new.work c.args.count c.args.s c.requires.1.0 w_length _ c.push.result k c.push.ensures (here bs c.args.s.place c.args.k Length c.in-Length.is c.requires.1.1) (sym (c.if-not-is_sign.ensures bs k)) (in_measure 2) (refl, omega arith) (op_length (fuel bs))
+    let k = c.requires.ready.tokens in
+    begin_built_in bs c.args.work.now c.push.new.work c.args.count c.args.s c.requires.room w_length _ c.push.result k c.push.ensures (here bs c.args.s.place c.args.k Length c.in-Length.is c.requires.here) (sym (c.if-not-is_sign.ensures bs k)) (in_measure 2) (refl, omega arith) (op_length (fuel bs))
 
 pub returns-in-Upper : goal.returns-in-Upper
 unfolding FrameSays spelled
 returns-in-Upper c =
     let bs = c.args.text.now in
-    let k = c.requires.0.tokens in
-    begin_built_in bs c.args.work.now c.push-in-Upper.new.work c.args.count c.args.s c.requires.1.0 w_upper _ c.push-in-Upper.result k c.push-in-Upper.ensures (here bs c.args.s.place c.args.k Upper c.in-Upper.is c.requires.1.1) (sym (c.if-not-is_sign.ensures bs k)) (in_measure 3) (refl, omega arith) (op_upper (fuel bs))
+    let k = c.requires.ready.tokens in
+    begin_built_in bs c.args.work.now c.push-in-Upper.new.work c.args.count c.args.s c.requires.room w_upper _ c.push-in-Upper.result k c.push-in-Upper.ensures (here bs c.args.s.place c.args.k Upper c.in-Upper.is c.requires.here) (sym (c.if-not-is_sign.ensures bs k)) (in_measure 3) (refl, omega arith) (op_upper (fuel bs))
 
 pub returns-in-Index : goal.returns-in-Index
 unfolding FrameSays spelled
 returns-in-Index c =
     let bs = c.args.text.now in
-    let k = c.requires.0.tokens in
-    begin_built_in bs c.args.work.now c.push-in-Index.new.work c.args.count c.args.s c.requires.1.0 w_index _ c.push-in-Index.result k c.push-in-Index.ensures (here bs c.args.s.place c.args.k Index c.in-Index.is c.requires.1.1) (sym (c.if-not-is_sign.ensures bs k)) in_index refl (op_index (fuel bs))
+    let k = c.requires.ready.tokens in
+    begin_built_in bs c.args.work.now c.push-in-Index.new.work c.args.count c.args.s c.requires.room w_index _ c.push-in-Index.result k c.push-in-Index.ensures (here bs c.args.s.place c.args.k Index c.in-Index.is c.requires.here) (sym (c.if-not-is_sign.ensures bs k)) in_index refl (op_index (fuel bs))
 
 pub returns-in-Substr : goal.returns-in-Substr
 unfolding FrameSays spelled
 returns-in-Substr c =
     let bs = c.args.text.now in
-    let k = c.requires.0.tokens in
-    begin_built_in bs c.args.work.now c.push-in-Substr.new.work c.args.count c.args.s c.requires.1.0 w_substr _ c.push-in-Substr.result k c.push-in-Substr.ensures (here bs c.args.s.place c.args.k Substr c.in-Substr.is c.requires.1.1) (sym (c.if-not-is_sign.ensures bs k)) in_part refl (op_part (fuel bs))
+    let k = c.requires.ready.tokens in
+    begin_built_in bs c.args.work.now c.push-in-Substr.new.work c.args.count c.args.s c.requires.room w_substr _ c.push-in-Substr.result k c.push-in-Substr.ensures (here bs c.args.s.place c.args.k Substr c.in-Substr.is c.requires.here) (sym (c.if-not-is_sign.ensures bs k)) in_part refl (op_part (fuel bs))
 
 pub returns-in-Split : goal.returns-in-Split
 unfolding FrameSays spelled
 returns-in-Split c =
     let bs = c.args.text.now in
-    let k = c.requires.0.tokens in
-    begin_built_in bs c.args.work.now c.push-in-Split.new.work c.args.count c.args.s c.requires.1.0 w_split _ c.push-in-Split.result k c.push-in-Split.ensures (here bs c.args.s.place c.args.k Split c.in-Split.is c.requires.1.1) (sym (c.if-not-is_sign.ensures bs k)) in_split refl (op_split (fuel bs))
+    let k = c.requires.ready.tokens in
+    begin_built_in bs c.args.work.now c.push-in-Split.new.work c.args.count c.args.s c.requires.room w_split _ c.push-in-Split.result k c.push-in-Split.ensures (here bs c.args.s.place c.args.k Split c.in-Split.is c.requires.here) (sym (c.if-not-is_sign.ensures bs k)) in_split refl (op_split (fuel bs))
 
-pub begin_swap-requires : goal.begin_swap-requires
+pub begin_swap-requires-clause-here : goal.begin_swap-requires-clause-here
 unfolding spelled
-begin_swap-requires c =
-    let bs = c.args.text.now in
-    let p = c.args.s.place in
-    let k = c.requires.0.tokens in
-    (c.requires.0, (c.requires.1.0, (here bs p c.args.k Swap c.in-Swap.is c.requires.1.1, sym (c.if-not-is_sign.ensures bs k))))
+begin_swap-requires-clause-here c = here c.args.text.now c.args.s.place c.args.k Swap c.in-Swap.is c.requires.here
+
+pub begin_swap-requires-clause-opens : goal.begin_swap-requires-clause-opens
+begin_swap-requires-clause-opens c = sym (c.if-not-is_sign.ensures c.args.text.now c.requires.ready.tokens)
 
 pub returns-in_default : goal.returns-in_default
 returns-in_default c =
     let bs = c.args.text.now in
     let p = c.args.s.place in
-    let e = c.requires.1.1 in
+    let e = c.requires.here in
     begin_fail bs c.args.work.now c.args.count c.args.s
     (λ fs l. ap (λ us. before (fuel bs) fs us) e ∙ other_word (fuel bs) fs l c.args.k (rest (toks bs p)) (enough_here bs p e) c.in_default.not-Length c.in_default.not-Upper c.in_default.not-Index c.in_default.not-Substr c.in_default.not-Split c.in_default.not-Swap)

@@ -18,7 +18,7 @@ returns-then-s-eq0 c =
     let m = c.args.work.now in
     let s = c.args.s in
     let n = s.nodes in
-    let room = c.requires.1 in
+    let room = c.requires.room in
     record {
       spends = omega arith;
       goes = record {
@@ -37,12 +37,12 @@ returns-in-Infix c =
     let s = c.args.s in
     let w = c.make in
     let q = c.in-Infix in
-    end_grown bs m w.new.work c.args.count s c.args.node (Infix q.level q.o q.left) c.requires.0.tokens c.requires.1 (record { deep = omega arith; is = q.ensures }) _ c.infix_plain-plain.result c.high_of.result w.result w.ensures
+    end_grown bs m w.new.work c.args.count s c.args.node (Infix q.level q.o q.left) c.requires.ready.tokens c.requires.room (record { deep = omega arith; is = q.ensures }) _ c.infix_plain-plain.result c.high_of-high.result w.result w.ensures
     (λ a t b x.
     let e : c.infix_plain-plain.result ≡ (not (eqb (operator_number q.o) 12) && (plain_term x.1 && plain_term a)) = c.infix_plain-plain.ensures ∙ ap₂ (λ u v. not (eqb (operator_number q.o) 12) && (u && v)) (plain_is bs m s.nodes q.left x.1 x.4) (plain_is bs m s.nodes c.args.node a t) in
-    let h : c.high_of.result ≡ high_of x.0 = c.high_of.ensures ∙ high_is x.0 q.level x.2 in (
+    let h : c.high_of-high.result ≡ high_of x.0 = c.high_of-high.ensures ∙ high_is x.0 q.level x.2 in (
       bin (operator_number q.o) x.1 a,
-      made_bin bs m w.new.work s.nodes c.requires.1.low q.o q.left c.args.node c.infix_plain-plain.result x.1 a e x.4 t,
+      made_bin bs m w.new.work s.nodes c.requires.room.low q.o q.left c.args.node c.infix_plain-plain.result x.1 a e x.4 t,
       (let u = high_small x.0 x.3 in omega (arith, h)),
       (λ fs. ap (λ u. behind (fuel bs) fs u (bin (operator_number q.o) x.1 a) (toks bs s.place)) h ∙ ap (λ h. resume (fuel bs) (h ∷ fs) a (toks bs s.place)) (sym x.5)),
     ))
@@ -55,10 +55,10 @@ returns-in-Prefixed c =
     let s = c.args.s in
     let w = c.make-in-Prefixed in
     let q = c.in-Prefixed in
-    end_grown bs m w.new.work c.args.count s c.args.node (Prefixed q.p) c.requires.0.tokens c.requires.1 (record { deep = omega arith; is = q.ensures }) _ c.prefix_plain-plain.result 8 w.result w.ensures
+    end_grown bs m w.new.work c.args.count s c.args.node (Prefixed q.p) c.requires.ready.tokens c.requires.room (record { deep = omega arith; is = q.ensures }) _ c.prefix_plain-plain.result 8 w.result w.ensures
     (λ a t b x.
     let e : c.prefix_plain-plain.result ≡ (leb (prefix_number q.p) 1 && plain_term a) = c.prefix_plain-plain.ensures ∙ ap (λ u. leb (prefix_number q.p) 1 && u) (plain_is bs m s.nodes c.args.node a t) in
-    (un (prefix_number q.p) a, made_un bs m w.new.work s.nodes c.requires.1.low q.p c.args.node c.prefix_plain-plain.result a e t, omega arith, (λ fs. ap (λ h. resume (fuel bs) (h ∷ fs) a (toks bs s.place)) (sym (x)))))
+    (un (prefix_number q.p) a, made_un bs m w.new.work s.nodes c.requires.room.low q.p c.args.node c.prefix_plain-plain.result a e t, omega arith, (λ fs. ap (λ h. resume (fuel bs) (h ∷ fs) a (toks bs s.place)) (sym (x)))))
 
 pub returns-in-Dollar : goal.returns-in-Dollar
 unfolding resume FrameSays
@@ -68,10 +68,10 @@ returns-in-Dollar c =
     let s = c.args.s in
     let w = c.make-in-Dollar in
     let q = c.in-Dollar in
-    end_grown bs m w.new.work c.args.count s c.args.node Dollar c.requires.0.tokens c.requires.1 (record { deep = omega arith; is = q.ensures }) _ c.is_plain-plain.result 8 w.result w.ensures
+    end_grown bs m w.new.work c.args.count s c.args.node Dollar c.requires.ready.tokens c.requires.room (record { deep = omega arith; is = q.ensures }) _ c.is_plain-plain.result 8 w.result w.ensures
     (λ a t b x.
     let e : c.is_plain-plain.result ≡ plain_term a = c.is_plain-plain.ensures ∙ plain_is bs m s.nodes c.args.node a t in
-    (field a, made_field bs m w.new.work s.nodes c.requires.1.low c.args.node c.is_plain-plain.result a e t, omega arith, (λ fs. ap (λ h. resume (fuel bs) (h ∷ fs) a (toks bs s.place)) (sym (x)))))
+    (field a, made_field bs m w.new.work s.nodes c.requires.room.low c.args.node c.is_plain-plain.result a e t, omega arith, (λ fs. ap (λ h. resume (fuel bs) (h ∷ fs) a (toks bs s.place)) (sym (x)))))
 
 pub returns-in-Assigning : goal.returns-in-Assigning
 unfolding resume FrameSays
@@ -81,10 +81,10 @@ returns-in-Assigning c =
     let s = c.args.s in
     let w = c.make-in-Assigning in
     let q = c.in-Assigning in
-    end_grown bs m w.new.work c.args.count s c.args.node (Assigning q.left) c.requires.0.tokens c.requires.1 (record { deep = omega arith; is = q.ensures }) _ c.both_plain-plain.result 0 w.result w.ensures
+    end_grown bs m w.new.work c.args.count s c.args.node (Assigning q.left) c.requires.ready.tokens c.requires.room (record { deep = omega arith; is = q.ensures }) _ c.both_plain-plain.result 0 w.result w.ensures
     (λ a t b x.
     let e : c.both_plain-plain.result ≡ (plain_term x.0 && plain_term a) = c.both_plain-plain.ensures ∙ ap₂ (λ u v. u && v) (plain_is bs m s.nodes q.left x.0 x.1) (plain_is bs m s.nodes c.args.node a t) in
-    (put_in x.0 a, made_set bs m w.new.work s.nodes c.requires.1.low q.left c.args.node c.both_plain-plain.result x.0 a e x.1 t, omega arith, (λ fs. ap (λ h. resume (fuel bs) (h ∷ fs) a (toks bs s.place)) (sym x.2))))
+    (put_in x.0 a, made_set bs m w.new.work s.nodes c.requires.room.low q.left c.args.node c.both_plain-plain.result x.0 a e x.1 t, omega arith, (λ fs. ap (λ h. resume (fuel bs) (h ∷ fs) a (toks bs s.place)) (sym x.2))))
 
 pub returns-in-Indexing : goal.returns-in-Indexing
 unfolding resume FrameSays
@@ -94,8 +94,8 @@ returns-in-Indexing c =
     let s = c.args.s in
     let w = c.close in
     let q = c.in-Indexing in
-    end_close bs m w.new.work c.args.count s c.args.node (Indexing q.x) c.requires.0.tokens c.requires.1 (record { deep = omega arith; is = q.ensures }) _ 93 w.result (w.ensures bs c.requires.0.tokens)
-    (λ a t b x. (item x.0 a, made_item bs m w.new.work s.nodes c.requires.1.low q.x c.args.node x.0 a x.1 t, (λ fs. ap (λ h. resume (fuel bs) (h ∷ fs) a (toks bs s.place)) (sym x.2))))
+    end_close bs m w.new.work c.args.count s c.args.node (Indexing q.x) c.requires.ready.tokens c.requires.room (record { deep = omega arith; is = q.ensures }) _ 93 w.result (w.ensures bs c.requires.ready.tokens)
+    (λ a t b x. (item x.0 a, made_item bs m w.new.work s.nodes c.requires.room.low q.x c.args.node x.0 a x.1 t, (λ fs. ap (λ h. resume (fuel bs) (h ∷ fs) a (toks bs s.place)) (sym x.2))))
 
 pub returns-in-Measuring : goal.returns-in-Measuring
 unfolding resume FrameSays
@@ -105,8 +105,8 @@ returns-in-Measuring c =
     let s = c.args.s in
     let w = c.close-in-Measuring in
     let q = c.in-Measuring in
-    end_close bs m w.new.work c.args.count s c.args.node (Measuring q.p) c.requires.0.tokens c.requires.1 (record { deep = omega arith; is = q.ensures }) _ 41 w.result (w.ensures bs c.requires.0.tokens)
-    (λ a t b x. (un (prefix_number q.p) a, made_un bs m w.new.work s.nodes c.requires.1.low q.p c.args.node false a (length_not_plain q.p a x.1) t, (λ fs. ap (λ h. resume (fuel bs) (h ∷ fs) a (toks bs s.place)) (sym x.0))))
+    end_close bs m w.new.work c.args.count s c.args.node (Measuring q.p) c.requires.ready.tokens c.requires.room (record { deep = omega arith; is = q.ensures }) _ 41 w.result (w.ensures bs c.requires.ready.tokens)
+    (λ a t b x. (un (prefix_number q.p) a, made_un bs m w.new.work s.nodes c.requires.room.low q.p c.args.node false a (length_not_plain q.p a x.1) t, (λ fs. ap (λ h. resume (fuel bs) (h ∷ fs) a (toks bs s.place)) (sym x.0))))
 
 pub returns-in-IndexSecond : goal.returns-in-IndexSecond
 unfolding resume FrameSays
@@ -116,8 +116,8 @@ returns-in-IndexSecond c =
     let s = c.args.s in
     let w = c.close-in-IndexSecond in
     let q = c.in-IndexSecond in
-    end_close bs m w.new.work c.args.count s c.args.node (IndexSecond q.a) c.requires.0.tokens c.requires.1 (record { deep = omega arith; is = q.ensures }) _ 41 w.result (w.ensures bs c.requires.0.tokens)
-    (λ a t b x. (bin 12 x.0 a, made_bin bs m w.new.work s.nodes c.requires.1.low OIndex q.a c.args.node false x.0 a refl x.1 t, (λ fs. ap (λ h. resume (fuel bs) (h ∷ fs) a (toks bs s.place)) (sym x.2))))
+    end_close bs m w.new.work c.args.count s c.args.node (IndexSecond q.a) c.requires.ready.tokens c.requires.room (record { deep = omega arith; is = q.ensures }) _ 41 w.result (w.ensures bs c.requires.ready.tokens)
+    (λ a t b x. (bin 12 x.0 a, made_bin bs m w.new.work s.nodes c.requires.room.low OIndex q.a c.args.node false x.0 a refl x.1 t, (λ fs. ap (λ h. resume (fuel bs) (h ∷ fs) a (toks bs s.place)) (sym x.2))))
 
 pub returns-in-PartThird : goal.returns-in-PartThird
 unfolding resume FrameSays
@@ -127,8 +127,8 @@ returns-in-PartThird c =
     let s = c.args.s in
     let w = c.close-in-PartThird in
     let q = c.in-PartThird in
-    end_close bs m w.new.work c.args.count s c.args.node (PartThird q.a q.b) c.requires.0.tokens c.requires.1 (record { deep = omega arith; is = q.ensures }) _ 41 w.result (w.ensures bs c.requires.0.tokens)
-    (λ a t b x. (part x.0 x.1 a, made_part bs m w.new.work s.nodes c.requires.1.low q.a q.b c.args.node x.0 x.1 a x.2 x.3 t, (λ fs. ap (λ h. resume (fuel bs) (h ∷ fs) a (toks bs s.place)) (sym x.4))))
+    end_close bs m w.new.work c.args.count s c.args.node (PartThird q.a q.b) c.requires.ready.tokens c.requires.room (record { deep = omega arith; is = q.ensures }) _ 41 w.result (w.ensures bs c.requires.ready.tokens)
+    (λ a t b x. (part x.0 x.1 a, made_part bs m w.new.work s.nodes c.requires.room.low q.a q.b c.args.node x.0 x.1 a x.2 x.3 t, (λ fs. ap (λ h. resume (fuel bs) (h ∷ fs) a (toks bs s.place)) (sym x.4))))
 
 pub returns-in-IndexFirst : goal.returns-in-IndexFirst
 unfolding resume FrameSays
@@ -138,7 +138,7 @@ returns-in-IndexFirst c =
     let s = c.args.s in
     let w = c.part in
     let q = c.in-IndexFirst in
-    end_part bs m w.new.work c.args.count s c.args.node IndexFirst c.requires.0.tokens c.requires.1 (record { deep = omega arith; is = q.ensures }) _ w.result (w.ensures bs c.requires.0.tokens)
+    end_part bs m w.new.work c.args.count s c.args.node IndexFirst c.requires.ready.tokens c.requires.room (record { deep = omega arith; is = q.ensures }) _ w.result (w.ensures bs c.requires.ready.tokens)
     (λ a t b x. (in_index_of a, (a, t, refl), (λ fs. ap (λ h. resume (fuel bs) (h ∷ fs) a (toks bs s.place)) (sym (x)))))
 
 pub returns-in-PartFirst : goal.returns-in-PartFirst
@@ -149,7 +149,7 @@ returns-in-PartFirst c =
     let s = c.args.s in
     let w = c.part-in-PartFirst in
     let q = c.in-PartFirst in
-    end_part bs m w.new.work c.args.count s c.args.node PartFirst c.requires.0.tokens c.requires.1 (record { deep = omega arith; is = q.ensures }) _ w.result (w.ensures bs c.requires.0.tokens)
+    end_part bs m w.new.work c.args.count s c.args.node PartFirst c.requires.ready.tokens c.requires.room (record { deep = omega arith; is = q.ensures }) _ w.result (w.ensures bs c.requires.ready.tokens)
     (λ a t b x. (in_part_of a, (a, t, refl), (λ fs. ap (λ h. resume (fuel bs) (h ∷ fs) a (toks bs s.place)) (sym (x)))))
 
 pub returns-in-PartSecond : goal.returns-in-PartSecond
@@ -160,7 +160,7 @@ returns-in-PartSecond c =
     let s = c.args.s in
     let w = c.part-in-PartSecond in
     let q = c.in-PartSecond in
-    end_part bs m w.new.work c.args.count s c.args.node (PartSecond q.a) c.requires.0.tokens c.requires.1 (record { deep = omega arith; is = q.ensures }) _ w.result (w.ensures bs c.requires.0.tokens)
+    end_part bs m w.new.work c.args.count s c.args.node (PartSecond q.a) c.requires.ready.tokens c.requires.room (record { deep = omega arith; is = q.ensures }) _ w.result (w.ensures bs c.requires.ready.tokens)
     (λ a t b x. (in_part_at x.0 a, (x.0, a, x.1, t, refl), (λ fs. ap (λ h. resume (fuel bs) (h ∷ fs) a (toks bs s.place)) (sym x.2))))
 
 pub returns-in-SwapFirst : goal.returns-in-SwapFirst
@@ -171,17 +171,17 @@ returns-in-SwapFirst c =
     let s = c.args.s in
     let w = c.part-in-SwapFirst in
     let q = c.in-SwapFirst in
-    end_part bs m w.new.work c.args.count s c.args.node (SwapFirst q.q) c.requires.0.tokens c.requires.1 (record { deep = omega arith; is = q.ensures }) _ w.result (w.ensures bs c.requires.0.tokens)
+    end_part bs m w.new.work c.args.count s c.args.node (SwapFirst q.q) c.requires.ready.tokens c.requires.room (record { deep = omega arith; is = q.ensures }) _ w.result (w.ensures bs c.requires.ready.tokens)
     (λ a t b x. (in_swap_by x.0 a, (x.0, a, x.1, t, refl), (λ fs. ap (λ h. resume (fuel bs) (h ∷ fs) a (toks bs s.place)) (sym x.2))))
 
-pub finish_group-requires : goal.finish_group-requires
-finish_group-requires c = (c.requires.0, (c.requires.1, record { deep = omega arith; is = c.in-Group.ensures }))
+pub finish_group-requires-clause-here : goal.finish_group-requires-clause-here
+finish_group-requires-clause-here c = record { deep = omega arith; is = c.in-Group.ensures }
 
-pub finish_split-requires : goal.finish_split-requires
-finish_split-requires c = (c.requires.0, (c.requires.1, record { deep = omega arith; is = c.in-SplitFirst.ensures }))
+pub finish_split-requires-clause-here : goal.finish_split-requires-clause-here
+finish_split-requires-clause-here c = record { deep = omega arith; is = c.in-SplitFirst.ensures }
 
-pub finish_swap-requires : goal.finish_swap-requires
-finish_swap-requires c = (c.requires.0, (c.requires.1, record { deep = omega arith; is = c.in-SwapSecond.ensures }))
+pub finish_swap-requires-clause-here : goal.finish_swap-requires-clause-here
+finish_swap-requires-clause-here c = record { deep = omega arith; is = c.in-SwapSecond.ensures }
 
-pub finish_argument-requires : goal.finish_argument-requires
-finish_argument-requires c = (c.requires.0, (c.requires.1, record { deep = omega arith; is = c.in-Arguments.ensures }))
+pub finish_argument-requires-clause-here : goal.finish_argument-requires-clause-here
+finish_argument-requires-clause-here c = record { deep = omega arith; is = c.in-Arguments.ensures }

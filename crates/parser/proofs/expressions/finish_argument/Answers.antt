@@ -9,8 +9,8 @@ returns-then-is_sign c =
     let a = c.args in
     let w = c.put_list in
     let q = c.both_plain-plain in
-    let k = argument_tokens bs m w.new.work a.count a.s a.node a.x a.list q.result c.requires.1.0 c.requires.0.tokens c.requires.1.1 w.ensures q.ensures in
-    argument_more bs m w.new.work a.count a.s a.node a.x a.list q.result c.requires.1.0 c.requires.0.tokens c.requires.1.1 w.ensures q.ensures c.push.new.work c.push.result (sym (c.if-is_sign.ensures bs k)) c.push.ensures
+    let k = argument_tokens bs m w.new.work a.count a.s a.node a.x a.list q.result c.requires.room c.requires.ready.tokens c.requires.here w.ensures q.ensures in
+    argument_more bs m w.new.work a.count a.s a.node a.x a.list q.result c.requires.room c.requires.ready.tokens c.requires.here w.ensures q.ensures c.push.new.work c.push.result (sym (c.if-is_sign.ensures bs k)) c.push.ensures
 
 pub returns-else-is_sign : goal.returns-else-is_sign
 returns-else-is_sign c =
@@ -19,5 +19,5 @@ returns-else-is_sign c =
     let a = c.args in
     let w = c.put_list in
     let q = c.both_plain-plain in
-    let k = argument_tokens bs m w.new.work a.count a.s a.node a.x a.list q.result c.requires.1.0 c.requires.0.tokens c.requires.1.1 w.ensures q.ensures in
-    argument_last bs m w.new.work a.count a.s a.node a.x a.list q.result c.requires.1.0 c.requires.0.tokens c.requires.1.1 w.ensures q.ensures c.close.new.work c.close.result (sym (c.if-is_sign.ensures bs k)) (c.close.ensures bs k)
+    let k = argument_tokens bs m w.new.work a.count a.s a.node a.x a.list q.result c.requires.room c.requires.ready.tokens c.requires.here w.ensures q.ensures in
+    argument_last bs m w.new.work a.count a.s a.node a.x a.list q.result c.requires.room c.requires.ready.tokens c.requires.here w.ensures q.ensures c.close.new.work c.close.result (sym (c.if-is_sign.ensures bs k)) (c.close.ensures bs k)

@@ -14,8 +14,8 @@ unfolding resume FrameSays
 returns-then-not-is_sign c =
     let bs = c.args.text.now in
     let ts = toks bs c.args.s.place in
-    end_fail bs c.args.work.now c.args.count c.args.s c.args.node Group c.requires.1.1 (λ a t b x fs.
-    sym (past_none 41 ts (λ us. behind (fuel bs) fs 8 a us) (sym (c.if-not-is_sign.ensures bs c.requires.0.tokens))) ∙ ap (λ h. resume (fuel bs) (h ∷ fs) a ts) (sym x))
+    end_fail bs c.args.work.now c.args.count c.args.s c.args.node Group c.requires.here (λ a t b x fs.
+    sym (past_none 41 ts (λ us. behind (fuel bs) fs 8 a us) (sym (c.if-not-is_sign.ensures bs c.requires.ready.tokens))) ∙ ap (λ h. resume (fuel bs) (h ∷ fs) a ts) (sym x))
 
 pub returns : goal.returns
 unfolding resume FrameSays
@@ -25,9 +25,9 @@ returns c =
     let s = c.args.s in
     let p = s.place in
     let n = s.nodes in
-    let room = c.requires.1.0 in
-    let o = c.requires.1.1 in
-    let k = c.requires.0.tokens in
+    let room = c.requires.room in
+    let o = c.requires.here in
+    let k = c.requires.ready.tokens in
     let P = Ended bs m s c.args.node in
     let d = o.deep in
     let t : sees 41 (toks bs p) ≡ true = sym (c.if-not-is_sign.ensures bs k) in

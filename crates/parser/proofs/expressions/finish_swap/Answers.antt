@@ -14,7 +14,7 @@ returns-then-not-is_place c =
     let bs = c.args.text.now in
     let m = c.args.work.now in
     let s = c.args.s in
-    end_fail bs m c.args.count s c.args.node (SwapSecond c.args.q c.args.by) c.requires.1.1 (λ a t b x fs.
+    end_fail bs m c.args.count s c.args.node (SwapSecond c.args.q c.args.by) c.requires.here (λ a t b x fs.
     let z : can_set a ≡ false = sym (place_is bs m s.nodes c.args.node a t) ∙ sym c.if-not-is_place.ensures in
     sym (left_out (can_set a) (past 41 (toks bs s.place) (λ us. behind (fuel bs) fs 8 (swap x.0 x.1 a) us)) none z) ∙ ap (λ h. resume (fuel bs) (h ∷ fs) a (toks bs s.place)) (sym x.4))
 
@@ -25,9 +25,9 @@ returns c =
     let m = c.args.work.now in
     let m₁ = c.close.new.work in
     let s = c.args.s in
-    let k = c.requires.0.tokens in
-    let room = c.requires.1.0 in
-    end_close bs m m₁ c.args.count s c.args.node (SwapSecond c.args.q c.args.by) k room c.requires.1.1 _ 41 c.close.result (c.close.ensures bs k) (λ a t b x.
+    let k = c.requires.ready.tokens in
+    let room = c.requires.room in
+    end_close bs m m₁ c.args.count s c.args.node (SwapSecond c.args.q c.args.by) k room c.requires.here _ 41 c.close.result (c.close.ensures bs k) (λ a t b x.
     let z : can_set a ≡ true = sym (place_is bs m s.nodes c.args.node a t) ∙ sym c.if-not-is_place.ensures in (
       swap x.0 x.1 a,
       made_swap bs m m₁ s.nodes room.low c.args.q c.args.by c.args.node x.0 x.1 a x.2 x.3 t,

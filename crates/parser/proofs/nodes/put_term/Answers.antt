@@ -1,9 +1,10 @@
 use Rattle.std.proofs.Common.{ap, ◌∙◌}
 use Rattle.lexer.specs.declared.cells.Cell.{Cell}
 use Rattle.parser.specs.Nodes.{term_of}
+use Rattle.parser.proofs.Moves.{bit_byte}
 use Rattle.parser.proofs.nodes.put_term.Goals as goal
 
 pub returns : goal.returns
 unfolding term_of
 returns c =
-    record { here = ap term_of c.store.ensures.here ∙ c.term_cell-cell.ensures; plain = ap (λ (x : Cell). x.flag) c.store.ensures.here ∙ c.flag_of.ensures; others = c.store.ensures.others }
+    record { here = ap term_of c.store.ensures.here ∙ c.from-cell.ensures; plain = ap (λ (x : Cell). x.flag) c.store.ensures.here ∙ c.from.ensures ∙ bit_byte c.args.plain; others = c.store.ensures.others }
