@@ -1,5 +1,5 @@
 // The work area as numbered cells of seven words each.
-ghost use Rattle.std.specs.Prelude.{◌≡◌, ◌<◌};
+ghost use Rattle.std.specs.Prelude.{◌≡◌, ◌<◌, slice_index};
 ghost use Rattle.lexer.specs.Memory.{cell, Stored};
 
 // How many cells there are, and how many words they take.
@@ -20,6 +20,23 @@ pub struct Cell {
     pub third: u64,
     pub fourth: u64,
     pub fifth: u64,
+}
+
+impl Cell {
+    // A cell of a kind with its first four numbers; the flag and the fifth are zero.
+    pub fn new(kind: u64, numbers: [u64; 4]) -> Cell
+        ensures { result ≡ record { kind = kind; flag = 0; first = slice_index numbers 0; second = slice_index numbers 1; third = slice_index numbers 2; fourth = slice_index numbers 3; fifth = 0 } }
+    {
+        let [first, second, third, fourth] = numbers;
+        Cell {
+            kind,
+            first,
+            second,
+            third,
+            fourth,
+            ..Cell::default()
+        }
+    }
 }
 
 // A cell; behind the last one all are zero.

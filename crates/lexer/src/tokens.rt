@@ -48,10 +48,25 @@ pub enum Token {
     Number(u64),
     // A quoted text, by where its bytes begin.
     Quoted(usize),
-    // A sign by the number that the specification gives it: one of one byte is that byte; 1 ==, 2 !=, 3 <=, 4 >=, 5 &&, 6 ||, 7 !~.
+    // A sign by its number, which the specification gives: one of one byte is that byte.
     Sign(u8),
     Bad,
 }
+
+// The signs of two bytes, by the numbers that the specification gives them: == != <= >= && || !~.
+pub const EQUAL: u8 = 1;
+
+pub const UNEQUAL: u8 = 2;
+
+pub const AT_MOST: u8 = 3;
+
+pub const AT_LEAST: u8 = 4;
+
+pub const AND: u8 = 5;
+
+pub const OR: u8 = 6;
+
+pub const UNLIKE: u8 = 7;
 
 // Whether a byte can stand in a word.
 fn in_word(c: u8) -> bool
@@ -69,18 +84,18 @@ fn past_word(text: &[u8], from: usize) -> usize
     from + text[from..].iter().take_while(|c| in_word(**c)).count()
 }
 
-// The sign that a byte begins with another behind it, if they make one: 1 to 7 for two bytes, its byte for one.
+// The sign that a byte begins with another behind it, if they make one: of two bytes, or its byte.
 fn sign(c: u8, behind: u8) -> Option<u8>
     ensures { SignIs c behind result }
 {
     match (c, behind) {
-        (b'=', b'=') => Some(1),
-        (b'!', b'=') => Some(2),
-        (b'<', b'=') => Some(3),
-        (b'>', b'=') => Some(4),
-        (b'&', b'&') => Some(5),
-        (b'|', b'|') => Some(6),
-        (b'!', b'~') => Some(7),
+        (b'=', b'=') => Some(EQUAL),
+        (b'!', b'=') => Some(UNEQUAL),
+        (b'<', b'=') => Some(AT_MOST),
+        (b'>', b'=') => Some(AT_LEAST),
+        (b'&', b'&') => Some(AND),
+        (b'|', b'|') => Some(OR),
+        (b'!', b'~') => Some(UNLIKE),
         (
             b'!'
             | b'$'
@@ -293,7 +308,7 @@ fn sign_piece(text: &[u8], i: usize) -> Piece
     match sign(text[i], behind) {
         Some(s) => Piece {
             token: Some(Token::Sign(s)),
-            end: if s < 8 { i + 2 } else { i + 1 },
+            end: if s <= UNLIKE { i + 2 } else { i + 1 },
         },
         None => bad_piece(text),
     }
@@ -382,29 +397,18 @@ impl From<u64> for Keyword {
     }
 }
 
-fn numbers(kind: u64, first: u64, second: u64) -> Cell
-    ensures { result ≡ record { kind = kind; flag = 0; first = first; second = second; third = 0; fourth = 0; fifth = 0 } }
-{
-    Cell {
-        kind,
-        first,
-        second,
-        ..Cell::default()
-    }
-}
-
 impl From<Token> for Cell {
     ghost from_gives = { λ t c. token_of c ≡ t };
 
     #[tactic(auto, unfolding(crate::specs::Marks::token_of))]
     fn from(token: Token) -> Cell {
         match token {
-            Token::Name(x) => numbers(NAME, x.start as u64, x.len as u64),
-            Token::Keyword(k) => numbers(KEYWORD, u64::from(k), 0),
-            Token::Number(n) => numbers(NUMBER, n, 0),
-            Token::Quoted(start) => numbers(QUOTED, start as u64, 0),
-            Token::Sign(d) => numbers(SIGN, u64::from(d), 0),
-            Token::Bad => numbers(0, 0, 0),
+            Token::Name(x) => Cell::new(NAME, [x.start as u64, x.len as u64, 0, 0]),
+            Token::Keyword(k) => Cell::new(KEYWORD, [u64::from(k), 0, 0, 0]),
+            Token::Number(n) => Cell::new(NUMBER, [n, 0, 0, 0]),
+            Token::Quoted(start) => Cell::new(QUOTED, [start as u64, 0, 0, 0]),
+            Token::Sign(d) => Cell::new(SIGN, [u64::from(d), 0, 0, 0]),
+            Token::Bad => Cell::default(),
         }
     }
 }

@@ -46,19 +46,7 @@ low [] = 0
 low (in_bin k o l ∷ fs) = suc k
 low (in_un o ∷ fs) = 8
 low (in_field ∷ fs) = 8
-low (in_set l ∷ fs) = 0
-low (in_brackets ∷ fs) = 0
-low (in_item x ∷ fs) = 0
-low (in_measure o ∷ fs) = 0
-low (in_index ∷ fs) = 0
-low (in_index_of a ∷ fs) = 0
-low (in_part ∷ fs) = 0
-low (in_part_of a ∷ fs) = 0
-low (in_part_at a b ∷ fs) = 0
-low (in_split ∷ fs) = 0
-low (in_swap p ∷ fs) = 0
-low (in_swap_by p a ∷ fs) = 0
-low (in_call x xs ∷ fs) = 0
+low (_ ∷ fs) = 0
 
 -- below which level it goes on once both sides are there: a comparison has two sides only
 abbrev pub high_of : ℕ → ℕ
@@ -227,19 +215,7 @@ abbrev pub frame_low : Frame → ℕ
 frame_low (Infix l o i) = l
 frame_low (Prefixed p) = 8
 frame_low Dollar = 8
-frame_low (Assigning i) = 0
-frame_low Group = 0
-frame_low (Indexing v) = 0
-frame_low (Measuring p) = 0
-frame_low IndexFirst = 0
-frame_low (IndexSecond i) = 0
-frame_low PartFirst = 0
-frame_low (PartSecond i) = 0
-frame_low (PartThird i j) = 0
-frame_low SplitFirst = 0
-frame_low (SwapFirst q) = 0
-frame_low (SwapSecond q i) = 0
-frame_low (Arguments v i) = 0
+frame_low _ = 0
 
 -- a sign closes: a node is written behind it; without it there is no turn
 abbrev pub Closing : List ℕ → List ℕ → Spot → TermNode → Bool → Option Turn → Bool → Type 0

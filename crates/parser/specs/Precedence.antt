@@ -22,25 +22,14 @@ sign_level d p =
     pick (d == 61) (bit p) (pick (d == 6) 2 (pick (d == 5) 3 (pick (or (d == 126) (d == 7)) 4 (pick (or (d == 1) (or (d == 2) (or (d == 3) (or (d == 4) (or (d == 60) (d == 62)))))) 5 (pick (or (d == 36) (or (d == 40) (d == 33))) 6 (pick (or (d == 43) (d == 45)) 7 (pick (or (d == 42) (or (d == 47) (d == 37))) 8 0)))))))
 
 abbrev pub keyword_level : Keyword → ℕ
-keyword_level Begin = 0
-keyword_level End = 0
-keyword_level Function = 0
-keyword_level If = 0
-keyword_level Else = 0
-keyword_level While = 0
-keyword_level For = 0
 keyword_level In = 4
-keyword_level Print = 0
-keyword_level Next = 0
-keyword_level Exit = 0
-keyword_level Delete = 0
-keyword_level Return = 0
 keyword_level Length = 6
 keyword_level Upper = 6
 keyword_level Index = 6
 keyword_level Substr = 6
 keyword_level Split = 6
 keyword_level Swap = 6
+keyword_level _ = 0
 
 abbrev pub level_at : Token → Bool → ℕ
 level_at (AName x) p = 6
@@ -55,12 +44,8 @@ sign_operator d =
     pick (d == 6) OOr (pick (d == 5) OAnd (pick (d == 1) OEqual (pick (d == 2) OUnequal (pick (d == 60) OLess (pick (d == 3) OAtmost (pick (d == 62) OMore (pick (d == 4) OAtleast (pick (d == 43) OPlus (pick (d == 45) OMinus (pick (d == 42) OTimes (pick (d == 47) OOver (pick (d == 37) ORest OJoin))))))))))))
 
 abbrev pub operator_at : Token → Operator
-operator_at (AName x) = OJoin
-operator_at (AKeyword k) = OJoin
-operator_at (Number n) = OJoin
-operator_at (Quoted q) = OJoin
 operator_at (Sign d) = sign_operator d
-operator_at Bad = OJoin
+operator_at _ = OJoin
 
 -- the loosest level that may go on within what was begun last
 abbrev pub low_at : List ℕ → ℕ → ℕ

@@ -16,10 +16,21 @@ use crate::frames::{Frame, Spot, Turn, frame_at, push};
 use crate::nodes::{ListNode, Operator, Prefix, TermNode, is_place, is_plain, put_list, put_term};
 use lexer::ahead::{is_sign, name_at, pattern_at};
 use lexer::cells::Work;
-use lexer::tokens::{Keyword, Name, Token, peek};
+use lexer::tokens::{
+    AND, AT_LEAST, AT_MOST, EQUAL, Keyword, Name, OR, Token, UNEQUAL, UNLIKE, peek,
+};
 
 // The text, the area and the count of its tokens are not one struct: with the area in it each function would owe, besides, that the
 // area stays the same one, and without it each promise would speak of `x.entry.text.now` and `x.entry.count`.
+
+// Levels at which what follows an operand binds to it, from 1: assigning, || and &&, matching, comparing, joining, + and -, and * / %.
+const ASSIGNING: u64 = 1;
+
+const MATCHING: u64 = 4;
+
+const COMPARING: u64 = 5;
+
+const JOINING: u64 = 6;
 
 // The level of operands, to which everything may bind.
 const TIGHTEST: u64 = 8;
@@ -153,11 +164,12 @@ fn level(token: Token, place: bool) -> u64
 {
     match token {
         Token::Sign(b'=') => u64::from(place),
-        Token::Sign(6) => 2,
-        Token::Sign(5) => 3,
-        Token::Sign(b'~' | 7) | Token::Keyword(Keyword::In) => 4,
-        Token::Sign(1..=4 | b'<' | b'>') => 5,
-        Token::Sign(b'$' | b'(' | b'!') | Token::Name(_) | Token::Number(_) | Token::Quoted(_) => 6,
+        Token::Sign(OR) => 2,
+        Token::Sign(AND) => 3,
+        Token::Sign(b'~' | UNLIKE) | Token::Keyword(Keyword::In) => MATCHING,
+        Token::Sign(EQUAL | UNEQUAL | AT_MOST | AT_LEAST | b'<' | b'>') => COMPARING,
+        Token::Sign(b'$' | b'(' | b'!') | Token::Name(_) | Token::Number(_) | Token::Quoted(_) =>
+            JOINING,
         Token::Keyword(
             Keyword::Length
             | Keyword::Upper
@@ -165,7 +177,7 @@ fn level(token: Token, place: bool) -> u64
             | Keyword::Substr
             | Keyword::Split
             | Keyword::Swap,
-        ) => 6,
+        ) => JOINING,
         Token::Sign(b'+' | b'-') => 7,
         Token::Sign(b'*' | b'/' | b'%') => 8,
         _ => 0,
@@ -177,14 +189,14 @@ fn operator(token: Token) -> Operator
     ensures { result ≡ operator_at token }
 {
     match token {
-        Token::Sign(6) => Operator::Or,
-        Token::Sign(5) => Operator::And,
-        Token::Sign(1) => Operator::Equal,
-        Token::Sign(2) => Operator::Unequal,
+        Token::Sign(OR) => Operator::Or,
+        Token::Sign(AND) => Operator::And,
+        Token::Sign(EQUAL) => Operator::Equal,
+        Token::Sign(UNEQUAL) => Operator::Unequal,
         Token::Sign(b'<') => Operator::Less,
-        Token::Sign(3) => Operator::AtMost,
+        Token::Sign(AT_MOST) => Operator::AtMost,
         Token::Sign(b'>') => Operator::More,
-        Token::Sign(4) => Operator::AtLeast,
+        Token::Sign(AT_LEAST) => Operator::AtLeast,
         Token::Sign(b'+') => Operator::Plus,
         Token::Sign(b'-') => Operator::Minus,
         Token::Sign(b'*') => Operator::Times,
@@ -271,17 +283,17 @@ fn bind(
     ensures { (h : ℕ) → Binds text.now work.old s node h token level → Pays text.now work.old work.new count s.nodes (effort count s + 3) (Behind text.now work.old s node h) result }
 {
     match level {
-        1 => Some(push(work, s, Frame::Assigning(node), 1)),
-        4 => {
+        ASSIGNING => Some(push(work, s, Frame::Assigning(node), 1)),
+        MATCHING => {
             if is_sign(work, count, s.place, b'~') {
                 bind_like(text, work, count, s, node, false)
-            } else if is_sign(work, count, s.place, 7) {
+            } else if is_sign(work, count, s.place, UNLIKE) {
                 bind_like(text, work, count, s, node, true)
             } else {
                 bind_in(text, work, count, s, node)
             }
         }
-        6 => Some(push(work, s, Frame::Infix(6, Operator::Join, node), 0)),
+        JOINING => Some(push(work, s, Frame::Infix(level, Operator::Join, node), 0)),
         _ => Some(push(work, s, Frame::Infix(level, operator(token), node), 1)),
     }
 }
@@ -317,7 +329,7 @@ fn high_of(level: u64) -> u64
     ensures { result ≡ pick (level == 5) 4 level }
 {
     match level {
-        5 => 4,
+        COMPARING => MATCHING,
         _ => level,
     }
 }

@@ -100,88 +100,25 @@ impl From<Frame> for Cell {
     #[tactic(auto, unfolding(crate::specs::Frames::frame_of))]
     fn from(frame: Frame) -> Cell {
         match frame {
-            Frame::Infix(a, b, c) => Cell {
-                kind: INFIX,
-                first: a,
-                second: u64::from(b),
-                third: c as u64,
-                ..Cell::default()
-            },
-            Frame::Prefixed(a) => Cell {
-                kind: PREFIXED,
-                first: u64::from(a),
-                ..Cell::default()
-            },
-            Frame::Dollar => Cell {
-                kind: DOLLAR,
-                ..Cell::default()
-            },
-            Frame::Assigning(a) => Cell {
-                kind: ASSIGNING,
-                first: a as u64,
-                ..Cell::default()
-            },
-            Frame::Group => Cell {
-                kind: GROUP,
-                ..Cell::default()
-            },
-            Frame::Indexing(a) => Cell {
-                kind: INDEXING,
-                first: a.start as u64,
-                second: a.len as u64,
-                ..Cell::default()
-            },
-            Frame::Measuring(a) => Cell {
-                kind: MEASURING,
-                first: u64::from(a),
-                ..Cell::default()
-            },
-            Frame::IndexFirst => Cell {
-                kind: INDEX_FIRST,
-                ..Cell::default()
-            },
-            Frame::IndexSecond(a) => Cell {
-                kind: INDEX_SECOND,
-                first: a as u64,
-                ..Cell::default()
-            },
-            Frame::PartFirst => Cell {
-                kind: PART_FIRST,
-                ..Cell::default()
-            },
-            Frame::PartSecond(a) => Cell {
-                kind: PART_SECOND,
-                first: a as u64,
-                ..Cell::default()
-            },
-            Frame::PartThird(a, b) => Cell {
-                kind: PART_THIRD,
-                first: a as u64,
-                second: b as u64,
-                ..Cell::default()
-            },
-            Frame::SplitFirst => Cell {
-                kind: SPLIT_FIRST,
-                ..Cell::default()
-            },
-            Frame::SwapFirst(a) => Cell {
-                kind: SWAP_FIRST,
-                first: a as u64,
-                ..Cell::default()
-            },
-            Frame::SwapSecond(a, b) => Cell {
-                kind: SWAP_SECOND,
-                first: a as u64,
-                second: b as u64,
-                ..Cell::default()
-            },
-            Frame::Arguments(a, b) => Cell {
-                kind: ARGUMENTS,
-                first: a.start as u64,
-                second: a.len as u64,
-                third: b as u64,
-                ..Cell::default()
-            },
+            Frame::Infix(a, b, c) => Cell::new(INFIX, [a, u64::from(b), c as u64, 0]),
+            Frame::Prefixed(a) => Cell::new(PREFIXED, [u64::from(a), 0, 0, 0]),
+            Frame::Dollar => Cell::new(DOLLAR, [0; 4]),
+            Frame::Assigning(a) => Cell::new(ASSIGNING, [a as u64, 0, 0, 0]),
+            Frame::Group => Cell::new(GROUP, [0; 4]),
+            Frame::Indexing(a) => Cell::new(INDEXING, [a.start as u64, a.len as u64, 0, 0]),
+            Frame::Measuring(a) => Cell::new(MEASURING, [u64::from(a), 0, 0, 0]),
+            Frame::IndexFirst => Cell::new(INDEX_FIRST, [0; 4]),
+            Frame::IndexSecond(a) => Cell::new(INDEX_SECOND, [a as u64, 0, 0, 0]),
+            Frame::PartFirst => Cell::new(PART_FIRST, [0; 4]),
+            Frame::PartSecond(a) => Cell::new(PART_SECOND, [a as u64, 0, 0, 0]),
+            Frame::PartThird(a, b) => Cell::new(PART_THIRD, [a as u64, b as u64, 0, 0]),
+            Frame::SplitFirst => Cell::new(SPLIT_FIRST, [0; 4]),
+            Frame::SwapFirst(a) => Cell::new(SWAP_FIRST, [a as u64, 0, 0, 0]),
+            Frame::SwapSecond(a, b) => Cell::new(SWAP_SECOND, [a as u64, b as u64, 0, 0]),
+            Frame::Arguments(a, b) => Cell::new(
+                ARGUMENTS,
+                [a.start as u64, a.len as u64, b as u64, 0],
+            ),
         }
     }
 }

@@ -193,95 +193,23 @@ impl From<TermNode> for Cell {
     #[tactic(auto, unfolding(crate::specs::Nodes::term_of))]
     fn from(node: TermNode) -> Cell {
         match node {
-            TermNode::Number(a) => Cell {
-                kind: NUMBER,
-                first: a,
-                ..Cell::default()
-            },
-            TermNode::Text(a) => Cell {
-                kind: TEXT,
-                first: a as u64,
-                ..Cell::default()
-            },
-            TermNode::Variable(a) => Cell {
-                kind: VARIABLE,
-                first: a.start as u64,
-                second: a.len as u64,
-                ..Cell::default()
-            },
-            TermNode::Item(a, b) => Cell {
-                kind: ITEM,
-                first: a.start as u64,
-                second: a.len as u64,
-                third: b as u64,
-                ..Cell::default()
-            },
-            TermNode::Field(a) => Cell {
-                kind: FIELD,
-                first: a as u64,
-                ..Cell::default()
-            },
-            TermNode::Unary(a, b) => Cell {
-                kind: UNARY,
-                first: u64::from(a),
-                second: b as u64,
-                ..Cell::default()
-            },
-            TermNode::Binary(a, b, c) => Cell {
-                kind: BINARY,
-                first: u64::from(a),
-                second: b as u64,
-                third: c as u64,
-                ..Cell::default()
-            },
-            TermNode::Like(a, b) => Cell {
-                kind: LIKE,
-                first: a as u64,
-                second: b as u64,
-                ..Cell::default()
-            },
-            TermNode::There(a, b) => Cell {
-                kind: THERE,
-                first: a as u64,
-                second: b.start as u64,
-                third: b.len as u64,
-                ..Cell::default()
-            },
-            TermNode::Assign(a, b) => Cell {
-                kind: ASSIGN,
-                first: a as u64,
-                second: b as u64,
-                ..Cell::default()
-            },
-            TermNode::Call(a, b) => Cell {
-                kind: CALL,
-                first: a.start as u64,
-                second: a.len as u64,
-                third: b as u64,
-                ..Cell::default()
-            },
-            TermNode::Part(a, b, c) => Cell {
-                kind: PART,
-                first: a as u64,
-                second: b as u64,
-                third: c as u64,
-                ..Cell::default()
-            },
-            TermNode::Split(a, b, c) => Cell {
-                kind: SPLIT,
-                first: a as u64,
-                second: b.start as u64,
-                third: b.len as u64,
-                fourth: c as u64,
-                ..Cell::default()
-            },
-            TermNode::Swap(a, b, c) => Cell {
-                kind: SWAP,
-                first: a as u64,
-                second: b as u64,
-                third: c as u64,
-                ..Cell::default()
-            },
+            TermNode::Number(a) => Cell::new(NUMBER, [a, 0, 0, 0]),
+            TermNode::Text(a) => Cell::new(TEXT, [a as u64, 0, 0, 0]),
+            TermNode::Variable(a) => Cell::new(VARIABLE, [a.start as u64, a.len as u64, 0, 0]),
+            TermNode::Item(a, b) => Cell::new(ITEM, [a.start as u64, a.len as u64, b as u64, 0]),
+            TermNode::Field(a) => Cell::new(FIELD, [a as u64, 0, 0, 0]),
+            TermNode::Unary(a, b) => Cell::new(UNARY, [u64::from(a), b as u64, 0, 0]),
+            TermNode::Binary(a, b, c) => Cell::new(BINARY, [u64::from(a), b as u64, c as u64, 0]),
+            TermNode::Like(a, b) => Cell::new(LIKE, [a as u64, b as u64, 0, 0]),
+            TermNode::There(a, b) => Cell::new(THERE, [a as u64, b.start as u64, b.len as u64, 0]),
+            TermNode::Assign(a, b) => Cell::new(ASSIGN, [a as u64, b as u64, 0, 0]),
+            TermNode::Call(a, b) => Cell::new(CALL, [a.start as u64, a.len as u64, b as u64, 0]),
+            TermNode::Part(a, b, c) => Cell::new(PART, [a as u64, b as u64, c as u64, 0]),
+            TermNode::Split(a, b, c) => Cell::new(
+                SPLIT,
+                [a as u64, b.start as u64, b.len as u64, c as u64],
+            ),
+            TermNode::Swap(a, b, c) => Cell::new(SWAP, [a as u64, b as u64, c as u64, 0]),
         }
     }
 }
@@ -320,16 +248,8 @@ impl From<ListNode> for Cell {
     #[tactic(auto, unfolding(crate::specs::Nodes::list_of))]
     fn from(node: ListNode) -> Cell {
         match node {
-            ListNode::Empty => Cell {
-                kind: EMPTY,
-                ..Cell::default()
-            },
-            ListNode::More(before, last) => Cell {
-                kind: MORE,
-                first: before as u64,
-                second: last as u64,
-                ..Cell::default()
-            },
+            ListNode::Empty => Cell::new(EMPTY, [0; 4]),
+            ListNode::More(before, last) => Cell::new(MORE, [before as u64, last as u64, 0, 0]),
         }
     }
 }

@@ -10,19 +10,19 @@ behind c =
     let e : c.unwrap_or-behind.result ≡ get_or c.args.text.now (c.args.i + 1) 0 = grind arith in
     behind_is c.args.text.now c.args.i c.unwrap_or-behind.result e
 
-pub returns-then-s-lt8 : goal.returns-then-s-lt8
-returns-then-s-lt8 c =
-    let b = behind (goal.at.returns-then-s-lt8 c).After-unwrap_or-behind in
-    let s = λ (m : ℕ). signed_two c.args.text.now c.args.i m c.in-Some.s (sign_piece c.args.text.now c.args.i m c.in-Some.s c.unwrap_or-behind.result c.requires.inside c.requires.class b c.in-Some.ensures.0) c.in-Some.ensures.1 c.if-s-lt8.true in
+pub returns-then-s-le-UNLIKE : goal.returns-then-s-le-UNLIKE
+returns-then-s-le-UNLIKE c =
+    let b = behind (goal.at.returns-then-s-le-UNLIKE c).After-unwrap_or-behind in
+    let s = λ (m : ℕ). signed_two c.args.text.now c.args.i m c.in-Some.s (sign_piece c.args.text.now c.args.i m c.in-Some.s c.unwrap_or-behind.result c.requires.inside c.requires.class b c.in-Some.ensures.0) c.in-Some.ensures.1 (omega arith) in
     record { onward = omega arith; inside = (s 0).0; gives = (sign c.in-Some.s, refl, λ m. (s m).1) }
 
-pub returns-else-s-lt8 : goal.returns-else-s-lt8
-returns-else-s-lt8 c =
-    let b = behind (goal.at.returns-else-s-lt8 c).After-unwrap_or-behind in
+pub returns-else-s-le-UNLIKE : goal.returns-else-s-le-UNLIKE
+returns-else-s-le-UNLIKE c =
+    let b = behind (goal.at.returns-else-s-le-UNLIKE c).After-unwrap_or-behind in
     record {
       onward = omega arith;
       inside = omega arith;
-      gives = (sign c.in-Some.s, refl, λ m. signed_one c.args.text.now c.args.i m c.in-Some.s (sign_piece c.args.text.now c.args.i m c.in-Some.s c.unwrap_or-behind.result c.requires.inside c.requires.class b c.in-Some.ensures.0) c.if-s-lt8.false);
+      gives = (sign c.in-Some.s, refl, λ m. signed_one c.args.text.now c.args.i m c.in-Some.s (sign_piece c.args.text.now c.args.i m c.in-Some.s c.unwrap_or-behind.result c.requires.inside c.requires.class b c.in-Some.ensures.0) (omega arith));
     }
 
 pub returns-in-None : goal.returns-in-None

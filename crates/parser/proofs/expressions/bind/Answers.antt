@@ -27,7 +27,7 @@ returns-else-is_sign-2 c = λ h b. c.bind_in.ensures h c.args.token (subst (λ l
 pub returns-in-6 : goal.returns-in-6
 unfolding FrameSays
 returns-in-6 c = λ h b.
-    bind_join c.args.text.now c.args.work.now c.push-in-6.new.work c.args.count c.args.s c.args.node h c.args.level c.args.token c.requires.room b _ c.push-in-6.result c.push-in-6.ensures c.in-6.is (λ a t. (5, a, refl, omega arith, t, refl))
+    bind_join c.args.text.now c.args.work.now c.push-in-6.new.work c.args.count c.args.s c.args.node h c.args.level c.args.token c.requires.room b _ c.push-in-6.result c.push-in-6.ensures c.in-6.is (λ a t. (5, a, c.in-6.is, omega arith, t, refl))
 
 pub returns-in_default : goal.returns-in_default
 unfolding FrameSays
