@@ -88,7 +88,7 @@ fn past_atom(text: &[u8], c: Meant) -> Option<usize>
 #[derive(Clone, Copy)]
 pub struct Scan {
     at: usize,
-    open: usize,
+    nested: usize,
     marks: bool,
 }
 
@@ -101,7 +101,7 @@ fn is_mark(c: u8) -> bool
 
 // Takes the byte `c` into a scan, unless the text cannot be a pattern.
 fn scan_on(text: &[u8], s: Scan, c: Meant) -> Option<Scan>
-    requires few { s.open ≤ s.at }
+    requires few { s.nested ≤ s.at }
     requires meant { MeantIs text.now s.at (Some c) }
     ensures scanned { (from : ℕ) → Scans text.now from s → Scanned text.now from c result }
     ensures opened { Opened s result }
@@ -116,12 +116,12 @@ fn scan_on(text: &[u8], s: Scan, c: Meant) -> Option<Scan>
     match c.byte {
         b'(' => Some(Scan {
             at: c.next,
-            open: s.open + 1,
+            nested: s.nested + 1,
             marks: false,
         }),
         b')' => Some(Scan {
             at: c.next,
-            open: s.open.checked_sub(1)?,
+            nested: s.nested.checked_sub(1)?,
             marks: true,
         }),
         b'|' => Some(Scan {
@@ -144,7 +144,7 @@ pub fn is_pattern(text: &[u8], from: usize) -> bool
 {
     let mut s = Scan {
         at: from,
-        open: 0,
+        nested: 0,
         marks: false,
     };
     while let Some(c) = byte_at(text, s.at) {
@@ -153,5 +153,5 @@ pub fn is_pattern(text: &[u8], from: usize) -> bool
             None => return false,
         }
     }
-    s.open == 0
+    s.nested == 0
 }

@@ -298,14 +298,14 @@ fn bind(
     }
 }
 
-// A node behind a closing sign.
-fn close(work: &mut Work, count: usize, s: Spot, c: u8, node: TermNode, plain: bool) -> Option<Turn>
+// A node behind a closing sign; none of these is of the core.
+fn close(work: &mut Work, count: usize, s: Spot, c: u8, node: TermNode) -> Option<Turn>
     requires nodes { s.nodes < 25600 }
     requires place { s.place ≤ 4096 }
-    ensures { (bs : List ℕ) → TokensIn bs work.old count → Closing work.old work.new s node plain result (sees c (toks bs s.place)) }
+    ensures { (bs : List ℕ) → TokensIn bs work.old count → Closing work.old work.new s node false result (sees c (toks bs s.place)) }
 {
     if is_sign(work, count, s.place, c) {
-        Some(make(work, s, node, plain, 1, TIGHTEST))
+        Some(make(work, s, node, false, 1, TIGHTEST))
     } else {
         None
     }
@@ -399,7 +399,7 @@ fn finish_split(text: &[u8], work: &mut Work, count: usize, s: Spot, node: usize
         depth: s.depth - 1,
         ..s
     };
-    close(work, count, t, b')', TermNode::Split(node, x, q), false)
+    close(work, count, t, b')', TermNode::Split(node, x, q))
 }
 
 // Ends an argument of a call: another one follows, or the bracket.
@@ -427,7 +427,7 @@ fn finish_argument(
     if is_sign(work, count, s.place, b',') {
         Some(push(work, t, Frame::Arguments(x, s.nodes), 1))
     } else {
-        close(work, count, t, b')', TermNode::Call(x, s.nodes), false)
+        close(work, count, t, b')', TermNode::Call(x, s.nodes))
     }
 }
 
@@ -453,7 +453,7 @@ fn finish_swap(
         depth: s.depth - 1,
         ..s
     };
-    close(work, count, t, b')', TermNode::Swap(q, by, node), false)
+    close(work, count, t, b')', TermNode::Swap(q, by, node))
 }
 
 // Ends what was begun last, with its operand.
@@ -472,8 +472,14 @@ fn finish(text: &[u8], work: &mut Work, count: usize, s: Spot, node: usize) -> O
     match frame_at(work, t.depth) {
         Frame::Infix(level, o, left) => {
             let plain = infix_plain(work, o, left, node);
-            let high = high_of(level);
-            Some(make(work, t, TermNode::Binary(o, left, node), plain, 0, high))
+            Some(make(
+                work,
+                t,
+                TermNode::Binary(o, left, node),
+                plain,
+                0,
+                high_of(level),
+            ))
         }
         Frame::Prefixed(p) => {
             let plain = prefix_plain(work, p, node);
@@ -488,8 +494,8 @@ fn finish(text: &[u8], work: &mut Work, count: usize, s: Spot, node: usize) -> O
             Some(make(work, t, TermNode::Assign(left, node), plain, 0, 0))
         }
         Frame::Group => finish_group(text, work, count, s, node),
-        Frame::Indexing(x) => close(work, count, t, b']', TermNode::Item(x, node), false),
-        Frame::Measuring(p) => close(work, count, t, b')', TermNode::Unary(p, node), false),
+        Frame::Indexing(x) => close(work, count, t, b']', TermNode::Item(x, node)),
+        Frame::Measuring(p) => close(work, count, t, b')', TermNode::Unary(p, node)),
         Frame::IndexFirst => part(work, count, t, Frame::IndexSecond(node)),
         Frame::IndexSecond(a) => close(
             work,
@@ -497,11 +503,10 @@ fn finish(text: &[u8], work: &mut Work, count: usize, s: Spot, node: usize) -> O
             t,
             b')',
             TermNode::Binary(Operator::Index, a, node),
-            false,
         ),
         Frame::PartFirst => part(work, count, t, Frame::PartSecond(node)),
         Frame::PartSecond(a) => part(work, count, t, Frame::PartThird(a, node)),
-        Frame::PartThird(a, b) => close(work, count, t, b')', TermNode::Part(a, b, node), false),
+        Frame::PartThird(a, b) => close(work, count, t, b')', TermNode::Part(a, b, node)),
         Frame::SplitFirst => finish_split(text, work, count, s, node),
         Frame::SwapFirst(q) => part(work, count, t, Frame::SwapSecond(q, node)),
         Frame::SwapSecond(q, by) => finish_swap(text, work, count, s, node, q, by),

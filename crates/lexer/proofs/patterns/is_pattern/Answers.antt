@@ -17,8 +17,5 @@ loop-c-preserved c =
     let x = t.scanned c.args.from c.loop-c.invariant.1 in
     (omega (arith, m.1, x.1, t.opened, c.loop-c.invariant.0), x.0)
 
-pub returns-in-None : goal.returns-in-None
-returns-in-None c = sym (ap not (c.in-None.ensures.scanned c.args.from c.loop-c.invariant.1))
-
 pub returns : goal.returns
 returns c = scan_end c.args.text.now c.args.from c.loop-c.s c.in_default.ensures.meant c.loop-c.invariant.1

@@ -2,9 +2,6 @@ use Rattle.std.proofs.Common.{◌≡◌, sym, arith}
 use Rattle.lexer.proofs.Advance.{scan_open, scan_bar, scan_close, scan_too_far, scan_mark, scan_no_mark, scan_atom, scan_no_atom, no_mark, is_inside, plain_from}
 use Rattle.lexer.proofs.patterns.scan_on.Goals as goal
 
-pub past_atom-requires-clause-plain : goal.past_atom-requires-clause-plain
-past_atom-requires-clause-plain c = plain_from c.args.c.byte (sym c.if-is_mark.ensures) (λ e. omega arith)
-
 pub returns-then-s-clause-scanned : goal.returns-then-s-clause-scanned
 returns-then-s-clause-scanned c = λ from x. (scan_mark c.args.text.now from c.args.s c.args.c c.requires.meant x (sym c.if-is_mark.ensures) c.if-s.true, omega arith)
 
@@ -19,7 +16,7 @@ returns-in-124-clause-scanned c = λ from x. (scan_bar c.args.text.now from c.ar
 
 pub returns-in_err-checked_sub-in-41-clause-scanned : goal.returns-in_err-checked_sub-in-41-clause-scanned
 returns-in_err-checked_sub-in-41-clause-scanned c =
-    let z : c.args.s.«open» ≡ 0 = omega (arith, c.in_err-checked_sub-in-41.ensures) in
+    let z : c.args.s.nested ≡ 0 = omega (arith, c.in_err-checked_sub-in-41.ensures) in
     rw c.from_residual.ensures (λ from x. scan_too_far c.args.text.now from c.args.s c.args.c c.requires.meant x c.in-41.is z)
 
 pub returns-in_ok-checked_sub-in-41-clause-scanned : goal.returns-in_ok-checked_sub-in-41-clause-scanned

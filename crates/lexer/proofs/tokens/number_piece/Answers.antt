@@ -19,14 +19,6 @@ so_many c =
     count_from_yields_List c.take_while.result c.count-digits.result c.count-digits.ensures.ran (YieldsList-from_take_while _ digit (YieldsList-from_slice rest (cc (take_rest c.args.text.now c.args.i))) c.take_while.ensures.closure c.take_while.ensures.done (λ x b q k. search (rules, tests)))
     ∙ length-prefix_len digit rest
 
-pub value-requires-clause-digits : goal.value-requires-clause-digits
-value-requires-clause-digits c = λ k h.
-    let e = so_many (goal.at.value-requires-clause-digits c).After-count-digits in
-    let n = c.count-digits.result in
-    let z : c.args.i + n - c.args.i ≡ n = omega arith in
-    let l : k < n = omega (arith, simp length-take at (rw z at h)) in
-    rw (z, get_or-take n (drop c.args.i c.args.text.now) k 0 l) (prefix_len_passes digit (drop c.args.i c.args.text.now) k 0 (omega (arith, e)))
-
 pub returns-then-digits-le18 : goal.returns-then-digits-le18
 returns-then-digits-le18 c =
     let e = so_many (goal.at.returns-then-digits-le18 c).After-count-digits in

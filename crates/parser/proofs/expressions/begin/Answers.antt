@@ -31,17 +31,6 @@ returns-in-Quoted c =
     (made_txt bs c.args.work.now c.make-in-Quoted.new.work c.args.s.nodes c.requires.room.low q b (record { inside = e.1; is = refl }) c.make-in-Quoted.ensures.made)
     (λ fs l. first_token bs p (quoted b) (λ us. before (fuel bs) fs us) (λ us. behind (fuel bs) fs 8 (txt b) us) e.0 (op_text (fuel bs) fs l b))
 
-pub begin_name-requires-clause-here : goal.begin_name-requires-clause-here
-begin_name-requires-clause-here c =
-    let e = rw c.in-Name.is at (c.in_ok-n.ensures c.args.text.now c.requires.ready.tokens) in
-    record { is = e.0; fresh = e.1; inside = e.2 }
-
-pub begin_word-requires-clause-here : goal.begin_word-requires-clause-here
-begin_word-requires-clause-here c = rw c.in-Keyword.is at (c.in_ok-n.ensures c.args.text.now c.requires.ready.tokens)
-
-pub begin_sign-requires-clause-here : goal.begin_sign-requires-clause-here
-begin_sign-requires-clause-here c = rw c.in-Sign.is at (c.in_ok-n.ensures c.args.text.now c.requires.ready.tokens)
-
 pub returns-in_err-n : goal.returns-in_err-n
 returns-in_err-n c =
     let bs = c.args.text.now in

@@ -24,12 +24,6 @@ returns-then-is_sign c =
     (λ fs l. ap (λ us. before (fuel bs) fs us) here.is ∙ op_item (fuel bs) fs l x (rest (toks bs p)) (enough_here bs p here.is) here.fresh (ap (sees 91) (rest_toks bs p) ∙ t)
     ∙ ap (λ us. before (fuel bs) (in_item x ∷ fs) us) (ap rest (rest_toks bs p) ∙ rest_two bs p))
 
-pub begin_call-requires-clause-here : goal.begin_call-requires-clause-here
-begin_call-requires-clause-here c =
-    let bs = c.args.text.now in
-    let k = c.requires.ready.tokens in
-    record { name = c.requires.here; no_item = sym (c.if-is_sign.ensures bs k); calls = sym (c.if-is_sign-2.ensures bs k) }
-
 pub returns-else-is_sign-2 : goal.returns-else-is_sign-2
 returns-else-is_sign-2 c =
     let bs = c.args.text.now in

@@ -62,9 +62,6 @@ pub begin_swap-requires-clause-here : goal.begin_swap-requires-clause-here
 unfolding spelled
 begin_swap-requires-clause-here c = here c.args.text.now c.args.s.place c.args.k Swap c.in-Swap.is c.requires.here
 
-pub begin_swap-requires-clause-opens : goal.begin_swap-requires-clause-opens
-begin_swap-requires-clause-opens c = sym (c.if-not-is_sign.ensures c.args.text.now c.requires.ready.tokens)
-
 pub returns-in_default : goal.returns-in_default
 returns-in_default c =
     let bs = c.args.text.now in

@@ -37,10 +37,10 @@ returns-in-Infix c =
     let s = c.args.s in
     let w = c.make in
     let q = c.in-Infix in
-    end_grown bs m w.new.work c.args.count s c.args.node (Infix q.level q.o q.left) c.requires.ready.tokens c.requires.room (record { deep = omega arith; is = q.ensures }) _ c.infix_plain-plain.result c.high_of-high.result w.result w.ensures
+    end_grown bs m w.new.work c.args.count s c.args.node (Infix q.level q.o q.left) c.requires.ready.tokens c.requires.room (record { deep = omega arith; is = q.ensures }) _ c.infix_plain-plain.result c.high_of.result w.result w.ensures
     (λ a t b x.
     let e : c.infix_plain-plain.result ≡ (not (eqb (operator_number q.o) 12) && (plain_term x.1 && plain_term a)) = c.infix_plain-plain.ensures ∙ ap₂ (λ u v. not (eqb (operator_number q.o) 12) && (u && v)) (plain_is bs m s.nodes q.left x.1 x.4) (plain_is bs m s.nodes c.args.node a t) in
-    let h : c.high_of-high.result ≡ high_of x.0 = c.high_of-high.ensures ∙ high_is x.0 q.level x.2 in (
+    let h : c.high_of.result ≡ high_of x.0 = c.high_of.ensures ∙ high_is x.0 q.level x.2 in (
       bin (operator_number q.o) x.1 a,
       made_bin bs m w.new.work s.nodes c.requires.room.low q.o q.left c.args.node c.infix_plain-plain.result x.1 a e x.4 t,
       (let u = high_small x.0 x.3 in omega (arith, h)),
@@ -173,15 +173,3 @@ returns-in-SwapFirst c =
     let q = c.in-SwapFirst in
     end_part bs m w.new.work c.args.count s c.args.node (SwapFirst q.q) c.requires.ready.tokens c.requires.room (record { deep = omega arith; is = q.ensures }) _ w.result (w.ensures bs c.requires.ready.tokens)
     (λ a t b x. (in_swap_by x.0 a, (x.0, a, x.1, t, refl), (λ fs. ap (λ h. resume (fuel bs) (h ∷ fs) a (toks bs s.place)) (sym x.2))))
-
-pub finish_group-requires-clause-here : goal.finish_group-requires-clause-here
-finish_group-requires-clause-here c = record { deep = omega arith; is = c.in-Group.ensures }
-
-pub finish_split-requires-clause-here : goal.finish_split-requires-clause-here
-finish_split-requires-clause-here c = record { deep = omega arith; is = c.in-SplitFirst.ensures }
-
-pub finish_swap-requires-clause-here : goal.finish_swap-requires-clause-here
-finish_swap-requires-clause-here c = record { deep = omega arith; is = c.in-SwapSecond.ensures }
-
-pub finish_argument-requires-clause-here : goal.finish_argument-requires-clause-here
-finish_argument-requires-clause-here c = record { deep = omega arith; is = c.in-Arguments.ensures }

@@ -50,13 +50,6 @@ returns-in_err-q c =
     rw c.from_residual-in_err-q.ensures (end_fail bs c.args.work.now c.args.count c.args.s c.args.node SplitFirst c.requires.here (λ a t b x fs.
     sym (split_pattern bs (fuel bs) fs a p v.0 (sym (c.if-not-is_sign.ensures bs k)) n (sym (c.if-not-is_sign-2.ensures bs k)) c.in_err-q.ensures) ∙ ap (λ h. resume (fuel bs) (h ∷ fs) a (toks bs p)) (sym x)))
 
-pub close-requires : goal.close-requires
-close-requires c =
-    let room = c.requires.room in
-    let d = c.requires.here.deep in
-    let a : c.args.s.place + 3 < c.args.count = pattern_ahead c.args.text.now c.args.work.now c.args.count (c.args.s.place + 3) c.requires.ready.tokens c.in_ok-q.ensures.2 in
-    record { nodes = omega (arith, room.nodes, room.within, room.few); place = omega (arith, room.few) }
-
 pub returns : goal.returns
 unfolding FrameSays
 returns c =
