@@ -64,11 +64,13 @@ pub fn store(work: &mut Work, i: usize, cell: Cell)
     ensures { Stored work.old work.new i cell }
 {
     let at = 7 * i;
-    work[at] = cell.kind;
-    work[at + 1] = cell.flag;
-    work[at + 2] = cell.first;
-    work[at + 3] = cell.second;
-    work[at + 4] = cell.third;
-    work[at + 5] = cell.fourth;
-    work[at + 6] = cell.fifth;
+    work[at..at + 7].copy_from_slice(&[
+        cell.kind,
+        cell.flag,
+        cell.first,
+        cell.second,
+        cell.third,
+        cell.fourth,
+        cell.fifth,
+    ]);
 }

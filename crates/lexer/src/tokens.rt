@@ -163,7 +163,7 @@ fn begins(c: u8) -> Class
     }
 }
 
-// The number that digits write, of which there are at most 18.
+// The number that digits write, of which there are at most 18. A loop: how many came, by which the number fits, is not seen by what `fold` calls.
 fn value(digits: &[u8]) -> u64
     requires few { length digits.now ≤ 18 }
     requires digits { (k : ℕ) → k < length digits.now → digit (slice_index digits.now k) ≡ true }
@@ -369,6 +369,7 @@ impl From<Keyword> for u64 {
     }
 }
 
+// Any other number is the last word. The arms are this enum's own: a function for each enum that is stored so would take a table of it.
 impl From<u64> for Keyword {
     ghost from_gives = { λ n k. k ≡ keyword_at n };
 
@@ -432,7 +433,7 @@ impl From<Cell> for Token {
     }
 }
 
-// Cuts a program's text into tokens, in the first cells, and says how many they are.
+// Cuts a program's text into tokens, in the first cells, and says how many they are. A loop: an iterator would be a type for this one use.
 pub fn cut(text: &[u8], work: &mut Work) -> usize
     requires { length text.now ≤ 4096 }
     ensures { TokensIn text.now work.new result }

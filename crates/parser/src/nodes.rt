@@ -1,7 +1,7 @@
 // Expressions as nodes, a cell each. A node stands behind its parts and is never changed, so what is represented stays so.
 ghost use Rattle.std.specs.Prelude.{◌≡◌, ◌<◌, ◌==◌};
-ghost use Rattle.lexer.specs.Memory.{cell};
-ghost use Rattle.parser.specs.Nodes.{operator_of, prefix_of, term_of, list_of, Made, Listed, a_place};
+ghost use Rattle.lexer.specs.Memory.{cell, Stored};
+ghost use Rattle.parser.specs.Nodes.{operator_of, prefix_of, term_of, list_of, bit, Made, Listed, a_place};
 
 use lexer::cells::{Cell, Work, load, store};
 use lexer::tokens::Name;
@@ -186,7 +186,6 @@ const EMPTY: u64 = 30;
 
 const MORE: u64 = 31;
 
-// The flag, which says whether all of a node is of the core, is for who writes the cell.
 impl From<TermNode> for Cell {
     ghost from_gives = { λ x c. term_of c ≡ x };
 
@@ -266,20 +265,27 @@ impl From<Cell> for ListNode {
     }
 }
 
-// Writes a node of an expression; the flag says whether all of it is of the core.
-pub fn put_term(work: &mut Work, i: usize, node: TermNode, plain: bool)
+// Writes a cell with its flag, which says whether all of what it holds is of the core.
+fn put(work: &mut Work, i: usize, c: Cell, plain: bool)
     requires { i < 25600 }
-    ensures { Made work.old work.new i node plain }
+    ensures { Stored work.old work.new i (record c { flag = bit plain }) }
 {
-    let cell = Cell::from(node);
     store(
         work,
         i,
         Cell {
             flag: u64::from(plain),
-            ..cell
+            ..c
         },
     );
+}
+
+// Writes a node of an expression; the flag says whether all of it is of the core.
+pub fn put_term(work: &mut Work, i: usize, node: TermNode, plain: bool)
+    requires { i < 25600 }
+    ensures { Made work.old work.new i node plain }
+{
+    put(work, i, Cell::from(node), plain);
 }
 
 // A node of an expression.
@@ -311,15 +317,7 @@ pub fn put_list(work: &mut Work, i: usize, node: ListNode, plain: bool)
     requires { i < 25600 }
     ensures { Listed work.old work.new i node plain }
 {
-    let cell = Cell::from(node);
-    store(
-        work,
-        i,
-        Cell {
-            flag: u64::from(plain),
-            ..cell
-        },
-    );
+    put(work, i, Cell::from(node), plain);
 }
 
 // A list of expressions.

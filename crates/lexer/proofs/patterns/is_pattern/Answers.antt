@@ -1,4 +1,4 @@
-use Rattle.std.proofs.Common.{not, sym, ap, arith}
+use Rattle.std.proofs.Common.{arith}
 use Rattle.lexer.proofs.Advance.{scan_start, scan_end}
 use Rattle.lexer.proofs.patterns.is_pattern.Goals as goal
 

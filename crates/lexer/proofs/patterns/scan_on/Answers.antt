@@ -1,5 +1,5 @@
 use Rattle.std.proofs.Common.{◌≡◌, sym, arith}
-use Rattle.lexer.proofs.Advance.{scan_open, scan_bar, scan_close, scan_too_far, scan_mark, scan_no_mark, scan_atom, scan_no_atom, no_mark, is_inside, plain_from}
+use Rattle.lexer.proofs.Advance.{scan_open, scan_bar, scan_close, scan_too_far, scan_mark, scan_no_mark, scan_atom, scan_no_atom, no_mark, is_inside}
 use Rattle.lexer.proofs.patterns.scan_on.Goals as goal
 
 pub returns-then-s-clause-scanned : goal.returns-then-s-clause-scanned

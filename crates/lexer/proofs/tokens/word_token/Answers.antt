@@ -1,5 +1,4 @@
-use Rattle.std.proofs.Common.{refl, ap, arith}
-use Rattle.language.specs.Program.{word}
+use Rattle.std.proofs.Common.{refl, arith}
 use Rattle.lexer.specs.Marks.{bytes_of}
 use Rattle.lexer.proofs.tokens.word_token.Goals as goal
 

@@ -1,10 +1,8 @@
 use Rattle.std.proofs.Common.{ap, ◌∙◌}
 use Rattle.lexer.specs.declared.cells.Cell.{Cell}
 use Rattle.parser.specs.Nodes.{term_of}
-use Rattle.parser.proofs.Moves.{bit_byte}
 use Rattle.parser.proofs.nodes.put_term.Goals as goal
 
 pub returns : goal.returns
 unfolding term_of
-returns c =
-    record { here = ap term_of c.store.ensures.here ∙ c.from-cell.ensures; plain = ap (λ (x : Cell). x.flag) c.store.ensures.here ∙ c.from.ensures ∙ bit_byte c.args.plain; others = c.store.ensures.others }
+returns c = let w = c.put.ensures in record { here = ap term_of w.here ∙ c.from.ensures; plain = ap (λ (x : Cell). x.flag) w.here; others = w.others }
