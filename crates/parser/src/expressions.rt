@@ -20,11 +20,12 @@ use lexer::tokens::{
     AND, AT_LEAST, AT_MOST, EQUAL, Keyword, Name, OR, Token, UNEQUAL, UNLIKE, peek,
 };
 
-// The text, the area and the count of its tokens are not one struct: with the area in it each function would owe, besides, that the
-// area stays the same one, and without it each promise would speak of `x.entry.text.now` and `x.entry.count`.
+// The text, the area and the count of its tokens are not one struct: each function that takes it as `&mut` would owe three clauses more, that the
+// text, the count and the area itself are the same ones behind it.
 
-// Levels at which what follows an operand binds to it, from 1: assigning, || and &&, matching, comparing, joining, + and -, and * / %.
-const ASSIGNING: u64 = 1;
+// Levels at which what follows an operand binds to it, from 1: assigning, ||, &&, matching, comparing, joining, + and -, and * / %. They are numbers since
+// a frame keeps one in a cell, and by their order it goes on or ends.
+const SETTING: u64 = 1;
 
 const MATCHING: u64 = 4;
 
@@ -283,7 +284,7 @@ fn bind(
     ensures { (h : ℕ) → Binds text.now work.old s node h token level → Pays text.now work.old work.new count s.nodes (effort count s + 3) (Behind text.now work.old s node h) result }
 {
     match level {
-        ASSIGNING => Some(push(work, s, Frame::Assigning(node), 1)),
+        SETTING => Some(push(work, s, Frame::Assigning(node), 1)),
         MATCHING => {
             if is_sign(work, count, s.place, b'~') {
                 bind_like(text, work, count, s, node, false)
