@@ -1,5 +1,5 @@
 // The stack of an expression that is being read: what was begun and waits for an operand.
-ghost use Rattle.std.specs.Prelude.{◌≡◌, ◌+◌, ◌≤◌};
+ghost use Rattle.std.specs.Prelude.{◌≡◌, ◌+◌, ◌≤◌, length};
 ghost use Rattle.lexer.specs.Memory.{cell};
 ghost use Rattle.parser.specs.Frames.{frame_of, Pushed};
 
@@ -154,7 +154,8 @@ pub fn push(work: &mut Work, s: Spot, frame: Frame, eaten: usize) -> Turn
     requires depth { s.depth ≤ 4096 }
     requires place { s.place ≤ 4096 }
     requires eaten { eaten ≤ 4 }
-    ensures { Pushed work.old work.new s frame eaten result }
+    ensures pushed { Pushed work.old work.new s frame eaten result }
+    ensures long { length work.new ≡ 179200 }
 {
     store(work, FRAMES + s.depth, Cell::from(frame));
     Turn::Operand(Spot {

@@ -1,5 +1,5 @@
 // Expressions as nodes, a cell each. A node stands behind its parts and is never changed, so what is represented stays so.
-ghost use Rattle.std.specs.Prelude.{◌≡◌, ◌<◌, ◌==◌};
+ghost use Rattle.std.specs.Prelude.{◌≡◌, ◌<◌, length, ◌==◌};
 ghost use Rattle.lexer.specs.Memory.{cell, Stored};
 ghost use Rattle.parser.specs.Nodes.{operator_of, prefix_of, term_of, list_of, bit, Made, Listed, a_place};
 
@@ -283,7 +283,8 @@ fn put(work: &mut Work, i: usize, c: Cell, plain: bool)
 // Writes a node of an expression; the flag says whether all of it is of the core.
 pub fn put_term(work: &mut Work, i: usize, node: TermNode, plain: bool)
     requires { i < 25600 }
-    ensures { Made work.old work.new i node plain }
+    ensures made { Made work.old work.new i node plain }
+    ensures long { length work.new ≡ 179200 }
 {
     put(work, i, Cell::from(node), plain);
 }
@@ -315,7 +316,8 @@ pub fn is_place(work: &Work, i: usize) -> bool
 // Writes a list; the flag says whether all of it is of the core.
 pub fn put_list(work: &mut Work, i: usize, node: ListNode, plain: bool)
     requires { i < 25600 }
-    ensures { Listed work.old work.new i node plain }
+    ensures listed { Listed work.old work.new i node plain }
+    ensures long { length work.new ≡ 179200 }
 {
     put(work, i, Cell::from(node), plain);
 }

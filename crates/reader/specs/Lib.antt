@@ -11,3 +11,4 @@ pub use Rattle.parser.specs.Levels
 pub use Rattle.parser.specs.Nodes
 pub use Rattle.parser.specs.Parsing
 pub use Rattle.parser.specs.Precedence
+pub use Rattle.parser.specs.Readers

@@ -7,21 +7,21 @@ use Rattle.lexer.proofs.Reach.{rest_toks, sees_ahead}
 use Rattle.parser.proofs.Moves.{nothing_written}
 use Rattle.parser.proofs.Operands.{past_is, past_none}
 use Rattle.parser.proofs.Endings.{topmost, resumed, end_fail}
-use Rattle.parser.proofs.expressions.finish_group.Goals as goal
+use Rattle.parser.proofs.expressions.Reader.finish_group.Goals as goal
 
 pub returns-then-not-is_sign : goal.returns-then-not-is_sign
 unfolding resume FrameSays
 returns-then-not-is_sign c =
-    let bs = c.args.text.now in
+    let bs = c.args.self.now.text.now in
     let ts = toks bs c.args.s.place in
-    end_fail bs c.args.work.now c.args.count c.args.s c.args.node Group c.requires.here (λ a t b x fs.
+    end_fail bs c.args.self.now.work.now c.args.self.now.count c.args.s c.args.node Group c.requires.here (λ a t b x fs.
     sym (past_none 41 ts (λ us. behind (fuel bs) fs 8 a us) (sym (c.if-not-is_sign.ensures bs c.requires.ready.tokens))) ∙ ap (λ h. resume (fuel bs) (h ∷ fs) a ts) (sym x))
 
 pub returns : goal.returns
 unfolding resume FrameSays
 returns c =
-    let bs = c.args.text.now in
-    let m = c.args.work.now in
+    let bs = c.args.self.now.text.now in
+    let m = c.args.self.now.work.now in
     let s = c.args.s in
     let p = s.place in
     let n = s.nodes in
@@ -31,7 +31,7 @@ returns c =
     let P = Ended bs m s c.args.node in
     let d = o.deep in
     let t : sees 41 (toks bs p) ≡ true = sym (c.if-not-is_sign.ensures bs k) in
-    let a : p < c.args.count = sees_ahead bs m c.args.count p 41 k t in
+    let a : p < c.args.self.now.count = sees_ahead bs m c.args.self.now.count p 41 k t in
     record {
       spends = omega arith;
       goes = record {
