@@ -369,31 +369,14 @@ impl From<Keyword> for u64 {
     }
 }
 
-// Any other number is the last word. The arms are this enum's own: a function for each enum that is stored so would take a table of it.
+// Any other number is the last word.
 impl From<u64> for Keyword {
     ghost from_gives = { λ n k. k ≡ keyword_at n };
 
     fn from(n: u64) -> Keyword {
-        match n {
-            0 => Keyword::Begin,
-            1 => Keyword::End,
-            2 => Keyword::Function,
-            3 => Keyword::If,
-            4 => Keyword::Else,
-            5 => Keyword::While,
-            6 => Keyword::For,
-            7 => Keyword::In,
-            8 => Keyword::Print,
-            9 => Keyword::Next,
-            10 => Keyword::Exit,
-            11 => Keyword::Delete,
-            12 => Keyword::Return,
-            13 => Keyword::Length,
-            14 => Keyword::Upper,
-            15 => Keyword::Index,
-            16 => Keyword::Substr,
-            17 => Keyword::Split,
-            _ => Keyword::Swap,
+        match Keyword::ALL.get(n as usize) {
+            Some(k) => *k,
+            None => Keyword::Swap,
         }
     }
 }
