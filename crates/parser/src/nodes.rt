@@ -98,6 +98,7 @@ impl From<Operator> for u64 {
     }
 }
 
+// Any other number is the last one. A table of all, which a keyword is read by, would be as long as the arms and serve nothing else.
 impl From<u64> for Operator {
     ghost from_gives = { λ n o. o ≡ operator_of n };
 
@@ -130,6 +131,7 @@ impl From<Prefix> for u64 {
     }
 }
 
+// Any other number is the last one.
 impl From<u64> for Prefix {
     ghost from_gives = { λ n p. p ≡ prefix_of n };
 
