@@ -10,7 +10,7 @@ use Rattle.parser.specs.Frames.{frame_of, frame_low}
 use Rattle.lexer.specs.Places.{toks}
 use Rattle.parser.specs.declared.frames.Spot.{Spot}
 use Rattle.lexer.specs.declared.tokens.Keyword.{Keyword}
-use Rattle.lexer.specs.declared.tokens.Keyword.TheVariants.{Begin, End, Function, If, Else, While, For, In, Print, Next, Exit, Delete, Return, Length, Upper, Index, Substr, Split, Swap}
+use Rattle.lexer.specs.declared.tokens.Keyword.TheVariants.{In, Length, Upper, Index, Substr, Split, Swap}
 use Rattle.lexer.specs.declared.tokens.Token.{Token}
 use Rattle.lexer.specs.declared.tokens.Token.TheVariants.{Name as AName, Keyword as AKeyword, Number, Quoted, Sign, Bad}
 use Rattle.parser.specs.declared.nodes.Operator.{Operator}

@@ -6,7 +6,7 @@ ghost use Rattle.lexer.specs.Marks.{spelled, TokensIn};
 ghost use Rattle.parser.specs.Nodes.{operator_number, prefix_number};
 ghost use Rattle.lexer.specs.Places.{toks, Ready};
 ghost use Rattle.parser.specs.Frames.{Room, Grown, Closing, Parting, OnTop};
-ghost use Rattle.parser.specs.declared.frames.Frame.TheVariants.{Group, SplitFirst, Arguments, SwapSecond};
+ghost use Rattle.parser.specs.declared.frames.Frame.TheVariants.{Infix, Group, SplitFirst, Arguments, SwapSecond};
 ghost use Rattle.language.specs.Text.{pick};
 ghost use Rattle.lexer.specs.Ahead.{NameHere, CallHere};
 ghost use Rattle.parser.specs.Parsing.{Start, TermRead, Paid};
@@ -471,6 +471,29 @@ impl<'a> Reader<'a> {
         self.close(t, b')', TermNode::Swap(q, by, node))
     }
 
+    // Ends the right side of an operator.
+    fn finish_infix(&mut self, s: Spot, node: usize, level: u64, o: Operator, left: usize) -> Turn
+        requires ready { Holds self.old }
+        requires room { Room self.old.count s.nodes 1 s }
+        requires here { OnTop self.old.work.now s (Infix level o left) }
+        ensures pays { Finishes self.old self.new s node (Some result) }
+        ensures same { Same self.old self.new }
+    {
+        let plain = infix_plain(self.work, o, left, node);
+        let t = Spot {
+            depth: s.depth - 1,
+            ..s
+        };
+        make(
+            self.work,
+            t,
+            TermNode::Binary(o, left, node),
+            plain,
+            0,
+            high_of(level),
+        )
+    }
+
     // Ends what was begun last, with its operand.
     fn finish(&mut self, s: Spot, node: usize) -> Option<Turn>
         requires ready { Holds self.old }
@@ -486,17 +509,7 @@ impl<'a> Reader<'a> {
             ..s
         };
         match frame_at(self.work, t.depth) {
-            Frame::Infix(level, o, left) => {
-                let plain = infix_plain(self.work, o, left, node);
-                Some(make(
-                    self.work,
-                    t,
-                    TermNode::Binary(o, left, node),
-                    plain,
-                    0,
-                    high_of(level),
-                ))
-            }
+            Frame::Infix(level, o, left) => Some(self.finish_infix(s, node, level, o, left)),
             Frame::Prefixed(p) => {
                 let plain = prefix_plain(self.work, p, node);
                 Some(make(self.work, t, TermNode::Unary(p, node), plain, 0, TIGHTEST))

@@ -1,14 +1,14 @@
-use Rattle.std.proofs.Common.{◌≡◌, false, not, ◌&&◌, eqb, leb, ◌∷◌, sym, refl, ap, ◌∙◌, ap₂, arith}
+use Rattle.std.proofs.Common.{◌≡◌, false, ◌&&◌, leb, ◌∷◌, sym, refl, ap, ◌∙◌, ap₂, arith}
 use Rattle.language.specs.Program.{item, field, un, bin, put_in, part}
 use Rattle.language.specs.Known.{plain_term}
-use Rattle.parser.specs.Nodes.{operator_number, prefix_number}
+use Rattle.parser.specs.Nodes.{prefix_number}
 use Rattle.parser.specs.declared.nodes.Operator.TheVariants.{Index as OIndex}
-use Rattle.parser.specs.declared.frames.Frame.TheVariants.{Infix, Prefixed, Dollar, Assigning, Indexing, Measuring, IndexFirst, IndexSecond, PartFirst, PartSecond, PartThird, SwapFirst}
-use Rattle.parser.specs.Frames.{in_index_of, in_part_of, in_part_at, in_swap_by, resume, behind, FrameSays, high_of}
+use Rattle.parser.specs.declared.frames.Frame.TheVariants.{Prefixed, Dollar, Assigning, Indexing, Measuring, IndexFirst, IndexSecond, PartFirst, PartSecond, PartThird, SwapFirst}
+use Rattle.parser.specs.Frames.{in_index_of, in_part_of, in_part_at, in_swap_by, resume, FrameSays}
 use Rattle.lexer.specs.Places.{fuel, toks}
 use Rattle.parser.proofs.Keeping.{bottom}
 use Rattle.parser.proofs.Moves.{nothing_written, plain_is, made_bin, made_un, made_field, made_set, made_item, made_part}
-use Rattle.parser.proofs.Endings.{high_is, high_small, length_not_plain, end_grown, end_close, end_part}
+use Rattle.parser.proofs.Endings.{length_not_plain, end_grown, end_close, end_part}
 use Rattle.parser.proofs.expressions.Reader.finish.Goals as goal
 
 pub returns-then-s-eq0-clause-pays : goal.returns-then-s-eq0-clause-pays
@@ -29,31 +29,13 @@ returns-then-s-eq0-clause-pays c =
       };
     }
 
-pub returns-in-Infix-clause-pays : goal.returns-in-Infix-clause-pays
-unfolding resume FrameSays
-returns-in-Infix-clause-pays c =
-    let bs = c.args.self.now.text.now in
-    let m = c.args.self.now.work.now in
-    let s = c.args.s in
-    let w = c.make in
-    let q = c.in-Infix in
-    end_grown bs m w.new.work c.args.self.now.count s c.args.node (Infix q.level q.o q.left) c.requires.ready.tokens c.requires.room (record { deep = omega arith; is = q.ensures }) _ c.infix_plain-plain.result c.high_of.result w.result w.ensures.grown
-    (λ a t b x.
-    let e : c.infix_plain-plain.result ≡ (not (eqb (operator_number q.o) 12) && (plain_term x.1 && plain_term a)) = c.infix_plain-plain.ensures ∙ ap₂ (λ u v. not (eqb (operator_number q.o) 12) && (u && v)) (plain_is bs m s.nodes q.left x.1 x.4) (plain_is bs m s.nodes c.args.node a t) in
-    let h : c.high_of.result ≡ high_of x.0 = c.high_of.ensures ∙ high_is x.0 q.level x.2 in (
-      bin (operator_number q.o) x.1 a,
-      made_bin bs m w.new.work s.nodes c.requires.room.low q.o q.left c.args.node c.infix_plain-plain.result x.1 a e x.4 t,
-      (let u = high_small x.0 x.3 in omega (arith, h)),
-      (λ fs. ap (λ u. behind (fuel bs) fs u (bin (operator_number q.o) x.1 a) (toks bs s.place)) h ∙ ap (λ h. resume (fuel bs) (h ∷ fs) a (toks bs s.place)) (sym x.5)),
-    ))
-
 pub returns-in-Prefixed-clause-pays : goal.returns-in-Prefixed-clause-pays
 unfolding resume FrameSays
 returns-in-Prefixed-clause-pays c =
     let bs = c.args.self.now.text.now in
     let m = c.args.self.now.work.now in
     let s = c.args.s in
-    let w = c.make-in-Prefixed in
+    let w = c.make in
     let q = c.in-Prefixed in
     end_grown bs m w.new.work c.args.self.now.count s c.args.node (Prefixed q.p) c.requires.ready.tokens c.requires.room (record { deep = omega arith; is = q.ensures }) _ c.prefix_plain-plain.result 8 w.result w.ensures.grown
     (λ a t b x.

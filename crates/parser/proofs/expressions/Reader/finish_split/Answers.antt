@@ -1,9 +1,8 @@
-use Rattle.std.proofs.Common.{◌≡◌, ◌+◌, ◌<◌, true, ◌∷◌, sym, ap, ◌∙◌, arith}
+use Rattle.std.proofs.Common.{◌≡◌, ◌+◌, true, ◌∷◌, sym, ap, ◌∙◌, arith}
 use Rattle.language.specs.Program.{split, got, sees, name_of}
 use Rattle.parser.specs.declared.frames.Frame.TheVariants.{SplitFirst}
 use Rattle.parser.specs.Frames.{resume, FrameSays}
 use Rattle.lexer.specs.Places.{fuel, toks}
-use Rattle.lexer.proofs.Reach.{pattern_ahead}
 use Rattle.parser.proofs.Moves.{made_split}
 use Rattle.parser.proofs.Endings.{end_close_at, end_fail, split_comma, split_name, split_second, split_pattern, split_all}
 use Rattle.parser.proofs.expressions.Reader.finish_split.Goals as goal
