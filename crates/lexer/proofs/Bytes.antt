@@ -1,11 +1,14 @@
 -- Tokens by what they begin with.
-use Rattle.std.proofs.Common.{◌≡◌, ℕ, zero, suc, ◌+◌, ◌-◌, ◌<◌, ◌≤◌, Bool, true, false, ◌&&◌, eqb, leb, List, [], ◌∷◌, length, get_or, take, drop, sym, refl, ap, ◌∙◌, ap₂, add-one, arith, drop-cons, eqb-true, le-leb, leb-false, leb-true}
+use Rattle.std.proofs.Common.{◌≡◌, ℕ, zero, suc, ◌+◌, ◌-◌, ◌<◌, ◌≤◌, Bool, true, false, ◌&&◌, eqb, leb, List, [], ◌∷◌, length, get_or, take, drop, Some, sym, refl, ap, ◌∙◌, ap₂, arith, eqb-true, le-leb, leb-false, leb-true}
+use Rattle.std.proofs.lemmas.List.{drop_more, drop_all, drop-drop, get_or-drop}
+use Rattle.std.specs.List.{prefix_len}
 use borrow.Author.Tests.{lt-leb, eqb-false}
 use Rattle.lexer.proofs.Picks.{picked, left_out}
-use Rattle.lexer.proofs.Words.{drop_out}
+use Rattle.lexer.proofs.Words.{digits_length}
+use Rattle.lexer.proofs.Numbers.{leading_digits}
 use Rattle.language.specs.Text.{pick, or, any, every, digit, leading}
 use Rattle.language.specs.Program.{word, number, quoted, sign, bad, tokens, gap, letter, word_part, after_word, digits_part, past_digits, past_line, quote_part, quote_ends, past_quote, pair_sign, a_sign, less_one}
-use Rattle.lexer.specs.Ends.{pair_of, sign_of, QuoteEnded, DigitsSay}
+use Rattle.lexer.specs.Ends.{pair_of, sign_of, QuoteEnded}
 use Rattle.lexer.specs.Classes.{class_of}
 use Rattle.lexer.specs.declared.tokens.Class.{Class}
 use Rattle.lexer.specs.declared.tokens.Class.TheVariants.{Gap, Comment, Letter, Digit, Quote, Other}
@@ -58,11 +61,11 @@ is_digit false false false false true e = let z : ◌≡◌ {A = ℕ} 0 1 = cc i
 is_digit false false false false false e = let z : ◌≡◌ {A = ℕ} 0 1 = cc in absurd (omega arith)
 
 pub gap_piece : (bs : List ℕ) (i m : ℕ) → i < length bs → class_of (get_or bs i 0) ≡ Gap → tokens (suc m) (drop i bs) ≡ tokens m (drop (i + 1) bs)
-gap_piece bs i m h e = ap (λ l. tokens (suc m) l) (drop-cons bs i 0 h) ∙ by_class m (get_or bs i 0) (drop (suc i) bs) Gap e ∙ ap (λ k. tokens m (drop k bs)) (sym (add-one i))
+gap_piece bs i m h e = ap (λ l. tokens (suc m) l) (drop_more bs i 0 h) ∙ by_class m (get_or bs i 0) (drop (i + 1) bs) Gap e
 
 pub comment_piece : (bs : List ℕ) (i m r : ℕ) → i < length bs → class_of (get_or bs i 0) ≡ Comment → drop r bs ≡ past_line (drop (i + 1) bs) → tokens (suc m) (drop i bs) ≡ tokens m (drop r bs)
 comment_piece bs i m r h e p =
-    ap (λ l. tokens (suc m) l) (drop-cons bs i 0 h) ∙ by_class m (get_or bs i 0) (drop (suc i) bs) Comment e ∙ ap (λ k. tokens m (past_line (drop k bs))) (sym (add-one i)) ∙ ap (λ l. tokens m l) (sym p)
+    ap (λ l. tokens (suc m) l) (drop_more bs i 0 h) ∙ by_class m (get_or bs i 0) (drop (i + 1) bs) Comment e ∙ ap (λ l. tokens m l) (sym p)
 
 word_take : (cs : List ℕ) → word_part cs ≡ take (length (word_part cs)) cs
 unfolding word_part
@@ -91,76 +94,59 @@ digits_drop (c ∷ cs) = go (digit c) (digits_drop cs)
     go true h = h
     go false h = refl
 
-drop_on : (bs : List ℕ) (i k : ℕ) → drop k (drop i bs) ≡ drop (i + k) bs
-drop_on bs zero k = let e : k ≡ 0 + k = omega arith in ap (λ j. drop j bs) e
-drop_on [] (suc i) zero = none_left (suc i + 0)
-  where
-    none_left : (j : ℕ) → [] ≡ drop {A = ℕ} j []
-    none_left zero = refl
-    none_left (suc j) = refl
-drop_on [] (suc i) (suc k) = none_left (suc i + suc k)
-  where
-    none_left : (j : ℕ) → [] ≡ drop {A = ℕ} j []
-    none_left zero = refl
-    none_left (suc j) = refl
-drop_on (b ∷ bs) (suc i) k = let e : suc (i + k) ≡ suc i + k = omega arith in drop_on bs i k ∙ ap (λ j. drop j (b ∷ bs)) e
-
 pub word_piece : (bs : List ℕ) (i m to : ℕ) → i < length bs → class_of (get_or bs i 0) ≡ Letter → to ≡ i + 1 + length (word_part (drop (i + 1) bs)) → tokens (suc m) (drop i bs) ≡ word (take (to - i) (drop i bs)) ∷ tokens m (drop to bs)
 unfolding word_part
 word_piece bs i m to h e q =
     let c : ℕ = get_or bs i 0 in
     let cs : List ℕ = drop (i + 1) bs in
-    let d : drop i bs ≡ c ∷ cs = drop-cons bs i 0 h ∙ ap (λ k. c ∷ drop k bs) (sym (add-one i)) in
+    let d : drop i bs ≡ c ∷ cs = drop_more bs i 0 h in
     let t : letter c ≡ true = is_letter (gap c) (eqb c 35) (letter c) (digit c) (eqb c 34) e in
     let w : word_part (c ∷ cs) ≡ c ∷ word_part cs = ap (λ b. pick (or b (digit c)) (c ∷ word_part cs) []) t in
     let n : suc (length (word_part cs)) ≡ to - i = omega arith in
-    let a : after_word cs ≡ drop to bs = word_drop cs ∙ drop_on bs (i + 1) (length (word_part cs)) ∙ ap (λ k. drop k bs) (sym q) in
+    let a : after_word cs ≡ drop to bs = word_drop cs ∙ drop-drop (length (word_part cs)) (i + 1) bs ∙ ap (λ k. drop k bs) (sym q) in
     ap (λ l. tokens (suc m) l) d ∙ by_class m c cs Letter e
     ∙ ap₂ (λ x y. word x ∷ tokens m y) (w ∙ ap (λ l. c ∷ l) (word_take cs) ∙ ap₂ (λ k l. take k l) n (sym d)) a
 
-pub number_piece : (bs : List ℕ) (i m v to : ℕ) → i < length bs → class_of (get_or bs i 0) ≡ Digit → DigitsSay bs i v to → to - i ≤ 18 → (i < to) × (tokens (suc m) (drop i bs) ≡ number v ∷ tokens m (drop to bs))
+-- what a digit begins: so many digits, of which at most 18 are a number
+pub number_piece : (bs : List ℕ) (i m n : ℕ) → i < length bs → class_of (get_or bs i 0) ≡ Digit → n ≡ prefix_len digit (drop i bs) →
+    (0 < n) × (tokens (suc m) (drop i bs) ≡ pick (leb n 18) (number (leading 0 (drop i bs)) ∷ tokens m (drop (i + n) bs)) (bad ∷ []))
 unfolding digits_part
-number_piece bs i m v to h e q le =
+number_piece bs i m n h e q =
     let c : ℕ = get_or bs i 0 in
     let cs : List ℕ = drop (i + 1) bs in
-    let d : drop i bs ≡ c ∷ cs = drop-cons bs i 0 h ∙ ap (λ k. c ∷ drop k bs) (sym (add-one i)) in
+    let d : drop i bs ≡ c ∷ cs = drop_more bs i 0 h in
     let t : digit c ≡ true = is_digit (gap c) (eqb c 35) (letter c) (digit c) (eqb c 34) e in
     let w : digits_part (c ∷ cs) ≡ c ∷ digits_part cs = ap (λ b. pick b (c ∷ digits_part cs) []) t in
-    let n : length (digits_part (drop i bs)) ≡ suc (length (digits_part cs)) = ap (λ l. length (digits_part l)) d ∙ ap length w in
-    let f : to ≡ i + 1 + length (digits_part cs) = omega (arith, q.ends) in
-    let g : leb (length (digits_part (c ∷ cs))) 18 ≡ true = ap (λ l. leb (length l) 18) w ∙ le-leb (suc (length (digits_part cs))) 18 (omega arith) in
-    let a : past_digits cs ≡ drop to bs = digits_drop cs ∙ drop_on bs (i + 1) (length (digits_part cs)) ∙ ap (λ k. drop k bs) (sym f) in (
-      omega arith,
-      ap (λ l. tokens (suc m) l) d ∙ by_class m c cs Digit e ∙ ap (λ b. pick b (number (leading 0 (c ∷ cs)) ∷ tokens m (past_digits cs)) (bad ∷ [])) g
-          ∙ ap₂ (λ x y. number x ∷ tokens m y) (ap (λ l. leading 0 l) (sym d) ∙ sym (q.worth (omega arith))) a,
+    let l : length (digits_part (c ∷ cs)) ≡ n = ap (λ l. length (digits_part l)) (sym d) ∙ digits_length (drop i bs) ∙ sym q in
+    let f : i + 1 + length (digits_part cs) ≡ i + n = omega (arith, ap length w) in
+    let a : past_digits cs ≡ drop (i + n) bs = digits_drop cs ∙ drop-drop (length (digits_part cs)) (i + 1) bs ∙ ap (λ k. drop k bs) f in (
+      omega (arith, ap length w),
+      ap (λ l. tokens (suc m) l) d ∙ by_class m c cs Digit e ∙ ap (λ k. pick (leb k 18) (number (leading 0 (c ∷ cs)) ∷ tokens m (past_digits cs)) (bad ∷ [])) l
+          ∙ ap₂ (λ x y. pick (leb n 18) (number x ∷ tokens m y) (bad ∷ [])) (ap (λ l. leading 0 l) (sym d)) a,
     )
 
-pub long_piece : (bs : List ℕ) (i m v to : ℕ) → i < length bs → class_of (get_or bs i 0) ≡ Digit → DigitsSay bs i v to → 18 < to - i → tokens (suc m) (drop i bs) ≡ bad ∷ []
-long_piece bs i m v to h e q gt =
-    let c : ℕ = get_or bs i 0 in
-    let cs : List ℕ = drop (i + 1) bs in
-    let d : drop i bs ≡ c ∷ cs = drop-cons bs i 0 h ∙ ap (λ k. c ∷ drop k bs) (sym (add-one i)) in
-    let n : length (digits_part (drop i bs)) ≡ length (digits_part (c ∷ cs)) = ap (λ l. length (digits_part l)) d in
-    let g : leb (length (digits_part (c ∷ cs))) 18 ≡ false = lt-leb (length (digits_part (c ∷ cs))) 18 (omega (arith, q.ends)) in
-    ap (λ l. tokens (suc m) l) d ∙ by_class m c cs Digit e ∙ ap (λ b. pick b (number (leading 0 (c ∷ cs)) ∷ tokens m (past_digits cs)) (bad ∷ [])) g
+pub short_number : (bs : List ℕ) (i m n v : ℕ) → i < length bs → class_of (get_or bs i 0) ≡ Digit → n ≡ prefix_len digit (drop i bs) → n ≤ 18 → v ≡ leading 0 (take n (drop i bs)) →
+    tokens (suc m) (drop i bs) ≡ number v ∷ tokens m (drop (i + n) bs)
+short_number bs i m n v h e q k f =
+    let l : v ≡ leading 0 (drop i bs) = f ∙ ap (λ k. leading 0 (take k (drop i bs))) q ∙ leading_digits 0 (drop i bs) in
+    (number_piece bs i m n h e q).1 ∙ picked (leb n 18) _ _ (le-leb n 18 k) ∙ ap (λ x. number x ∷ tokens m (drop (i + n) bs)) (sym l)
+
+pub long_number : (bs : List ℕ) (i m n : ℕ) → i < length bs → class_of (get_or bs i 0) ≡ Digit → n ≡ prefix_len digit (drop i bs) → 18 < n → tokens (suc m) (drop i bs) ≡ bad ∷ []
+long_number bs i m n h e q k = (number_piece bs i m n h e q).1 ∙ left_out (leb n 18) _ _ (lt-leb n 18 k)
 
 pub open_piece : (bs : List ℕ) (i m : ℕ) → i < length bs → class_of (get_or bs i 0) ≡ Quote → quote_ends (drop (i + 1) bs) ≡ false → tokens (suc m) (drop i bs) ≡ bad ∷ []
 open_piece bs i m h e q =
     let c : ℕ = get_or bs i 0 in
     let cs : List ℕ = drop (i + 1) bs in
-    let d : drop i bs ≡ c ∷ cs = drop-cons bs i 0 h ∙ ap (λ k. c ∷ drop k bs) (sym (add-one i)) in
+    let d : drop i bs ≡ c ∷ cs = drop_more bs i 0 h in
     ap (λ l. tokens (suc m) l) d ∙ by_class m c cs Quote e ∙ ap (λ b. pick b (quoted (quote_part cs) ∷ tokens m (past_quote cs)) (bad ∷ [])) q
 
-pub quote_piece : (bs : List ℕ) (i m to : ℕ) → i < length bs → class_of (get_or bs i 0) ≡ Quote → (to ≡ 0 → ⊥) → QuoteEnded bs (i + 1) to → (i < to) × (to ≤ length bs) × (tokens (suc m) (drop i bs) ≡ quoted (quote_part (drop (i + 1) bs)) ∷ tokens m (drop to bs))
-quote_piece bs i m zero h e z q = absurd (z refl)
-quote_piece bs i m (suc r) h e z q =
+pub quote_piece : (bs : List ℕ) (i m r : ℕ) → i < length bs → class_of (get_or bs i 0) ≡ Quote → QuoteEnded bs (i + 1) (Some r) → tokens (suc m) (drop i bs) ≡ quoted (quote_part (drop (i + 1) bs)) ∷ tokens m (drop r bs)
+quote_piece bs i m r h e q =
     let c : ℕ = get_or bs i 0 in
     let cs : List ℕ = drop (i + 1) bs in
-    let d : drop i bs ≡ c ∷ cs = drop-cons bs i 0 h ∙ ap (λ k. c ∷ drop k bs) (sym (add-one i)) in (
-      omega arith,
-      q.3,
-      ap (λ l. tokens (suc m) l) d ∙ by_class m c cs Quote e ∙ ap (λ b. pick b (quoted (quote_part cs) ∷ tokens m (past_quote cs)) (bad ∷ [])) q.0 ∙ ap (λ l. quoted (quote_part cs) ∷ tokens m l) (sym q.1),
-    )
+    ap (λ l. tokens (suc m) l) (drop_more bs i 0 h) ∙ by_class m c cs Quote e ∙ ap (λ b. pick b (quoted (quote_part cs) ∷ tokens m (past_quote cs)) (bad ∷ [])) q.0
+    ∙ ap (λ l. quoted (quote_part cs) ∷ tokens m l) (sym q.1)
 
 and_false : (a : Bool) → (a && false) ≡ false
 and_false true = refl
@@ -197,7 +183,7 @@ a_sign_small : (c : ℕ) → a_sign c ≡ true → (33 ≤ c) × (c ≤ 126)
 a_sign_small c h = sign_among c (33 ∷ 36 ∷ 37 ∷ 40 ∷ 41 ∷ 42 ∷ 43 ∷ 44 ∷ 45 ∷ 47 ∷ 59 ∷ 60 ∷ 61 ∷ 62 ∷ 91 ∷ 93 ∷ 123 ∷ 125 ∷ 126 ∷ []) h refl
 
 less_drop : (bs : List ℕ) (i : ℕ) → less_one (drop (i + 1) bs) ≡ drop (i + 2) bs
-less_drop bs i = go (drop (i + 1) bs) ∙ drop_on bs (i + 1) 1 ∙ (let e : i + 1 + 1 ≡ i + 2 = omega arith in ap (λ k. drop k bs) e)
+less_drop bs i = go (drop (i + 1) bs) ∙ drop-drop 1 (i + 1) bs ∙ (let e : i + 1 + 1 ≡ i + 2 = omega arith in ap (λ k. drop k bs) e)
   where
     go : (l : List ℕ) → less_one l ≡ drop 1 l
     go [] = refl
@@ -223,7 +209,7 @@ sign_piece bs i m s d h e q f = go (eqb p 0) refl (a_sign c) refl
 
     start : tokens (suc m) (drop i bs) ≡ pick (eqb p 0) (pick (a_sign c) (sign c ∷ tokens m cs) (bad ∷ [])) (sign p ∷ tokens m (less_one cs))
     start =
-        ap (λ l. tokens (suc m) l) (drop-cons bs i 0 h ∙ ap (λ k. c ∷ drop k bs) (sym (add-one i))) ∙ by_class m c cs Other e
+        ap (λ l. tokens (suc m) l) (drop_more bs i 0 h) ∙ by_class m c cs Other e
         ∙ ap (λ x. pick (eqb x 0) (pick (a_sign c) (sign c ∷ tokens m cs) (bad ∷ [])) (sign x ∷ tokens m (less_one cs))) (pair_is c cs ∙ ap (λ x. pair_of c x) (sym q))
 
     room : (p ≡ 0 → ⊥) → i + 2 ≤ length bs
@@ -231,7 +217,7 @@ sign_piece bs i m s d h e q f = go (eqb p 0) refl (a_sign c) refl
       where
         there : (b : Bool) → leb (i + 2) (length bs) ≡ b → i + 2 ≤ length bs
         there true t = leb-true (i + 2) (length bs) t
-        there false t = absurd (n (ap (λ x. pair_of c x) (q ∙ ap (λ l. get_or l 0 0) (drop_out bs (i + 1) (omega (arith, leb-false (i + 2) (length bs) t)))) ∙ no_pair c))
+        there false t = absurd (n (ap (λ x. pair_of c x) (q ∙ ap (λ l. get_or l 0 0) (drop_all (i + 1) bs (omega (arith, leb-false (i + 2) (length bs) t)))) ∙ no_pair c))
 
     go : (b : Bool) → eqb p 0 ≡ b → (a : Bool) → a_sign c ≡ a → Signed bs i m s
     go true t true u =
@@ -245,11 +231,8 @@ sign_piece bs i m s d h e q f = go (eqb p 0) refl (a_sign c) refl
         let z = pair_small c d in
         two_bytes (omega arith) (omega arith) (room n) (start ∙ left_out (eqb p 0) _ _ t ∙ ap₂ (λ x l. sign x ∷ tokens m l) (sym v) (less_drop bs i))
 
-pub behind_in : (bs : List ℕ) (i d : ℕ) → i + 1 < length bs → d ≡ get_or bs (i + 1) 0 → d ≡ get_or (drop (i + 1) bs) 0 0
-behind_in bs i d h e = e ∙ ap (λ l. get_or l 0 0) (sym (drop-cons bs (i + 1) 0 h))
-
-pub behind_out : (bs : List ℕ) (i d : ℕ) → length bs ≤ i + 1 → d ≡ 0 → d ≡ get_or (drop (i + 1) bs) 0 0
-behind_out bs i d h e = e ∙ ap (λ l. get_or l 0 0) (sym (drop_out bs (i + 1) h))
+pub behind_is : (bs : List ℕ) (i d : ℕ) → d ≡ get_or bs (i + 1) 0 → d ≡ get_or (drop (i + 1) bs) 0 0
+behind_is bs i d e = let z : i + 1 + 0 ≡ i + 1 = omega arith in e ∙ sym (get_or-drop (i + 1) bs 0 0 ∙ ap (λ k. get_or bs k 0) z)
 
 pub signed_none : (bs : List ℕ) (i m s : ℕ) → Signed bs i m s → s ≡ 0 → tokens (suc m) (drop i bs) ≡ bad ∷ []
 signed_none bs i m s (no_sign z t) e = t
@@ -269,7 +252,7 @@ signed_one bs i m s (one_byte a b t) e = t
 -- behind what is no token nothing is read
 pub bad_piece : (bs : List ℕ) (i m : ℕ) → tokens (suc m) (drop i bs) ≡ bad ∷ [] → tokens (suc m) (drop i bs) ≡ bad ∷ tokens m (drop (length bs) bs)
 unfolding tokens
-bad_piece bs i m e = e ∙ ap (λ l. bad ∷ l) (sym (ap (λ l. tokens m l) (drop_out bs (length bs) (omega arith)) ∙ none_left m))
+bad_piece bs i m e = e ∙ ap (λ l. bad ∷ l) (sym (ap (λ l. tokens m l) (drop_all (length bs) bs (omega arith)) ∙ none_left m))
   where
     none_left : (k : ℕ) → tokens k [] ≡ []
     none_left zero = refl

@@ -1,13 +1,13 @@
 -- Tokens are written one after the other.
-use Rattle.std.proofs.Common.{◌≡◌, ℕ, zero, suc, ◌+◌, ◌<◌, ◌≤◌, Bool, true, false, ltb, List, [], ◌∷◌, ◌++◌, length, get_or, drop, sym, refl, ap, ◌∙◌, subst, ap₂, append_assoc, arith, drop-cons, ltb-false, ltb-true}
+use Rattle.std.proofs.Common.{◌≡◌, ℕ, zero, suc, ◌+◌, ◌<◌, ◌≤◌, Bool, true, false, ltb, List, [], ◌∷◌, ◌++◌, length, get_or, drop, Some, sym, refl, ap, ◌∙◌, subst, ap₂, append_assoc, arith, drop-cons, ltb-false, ltb-true, length-append}
+use Rattle.std.proofs.lemmas.List.{drop_all, append-nil, get_or_append_left, get_or_at}
 use Rattle.language.specs.Program
 use Rattle.language.specs.Program.{bad, tokens, cut_up, rest}
 use Rattle.lexer.specs.Memory.{cell, Stored}
-use Rattle.lexer.specs.Marks.{TokenSays, TokenKept, Seen, token_of, TokensIn}
+use Rattle.lexer.specs.Marks.{TokenSays, Seen, token_of, TokensIn}
 use Rattle.lexer.specs.declared.cells.Cell.{Cell}
 use Rattle.lexer.specs.declared.tokens.Token.{Token}
-use Rattle.lexer.specs.declared.tokens.Token.TheVariants.{Over, Name as AName, Keyword as AKeyword, Number, Quoted, Sign, Bad}
-use Rattle.lexer.proofs.Words.{drop_out}
+use Rattle.lexer.specs.declared.tokens.Token.TheVariants.{Name as AName, Keyword as AKeyword, Number, Quoted, Sign, Bad}
 
 -- so far: what is written, and the tokens of the rest, with fuel
 pub record Far (bs m : List ℕ) (i n : ℕ) : Type 0 where
@@ -30,30 +30,8 @@ far_skip bs m i n to l h t f = go f.fuel f.enough f.split
     go zero e s = absurd (omega arith)
     go (suc k) e s = record { written = f.written; count = f.count; each = f.each; fuel = k; enough = omega arith; split = s ∙ ap (λ r. f.written ++ r) (t k) }
 
-says_kept : (bs : List ℕ) (t : Token) (c : Cell) (s : Program.Token) → TokenKept t c → TokenSays bs t s → TokenSays bs (token_of c) s
-says_kept bs Over c s k h = absurd h
-says_kept bs (AName x) c s k h = subst (λ t. TokenSays bs t s) (sym k) h
-says_kept bs (AKeyword x) c s k h = subst (λ t. TokenSays bs t s) (sym k) h
-says_kept bs (Number x) c s k h = subst (λ t. TokenSays bs t s) (sym k) h
-says_kept bs (Quoted x) c s k h = subst (λ t. TokenSays bs t s) (sym k) h
-says_kept bs (Sign x) c s k h = subst (λ t. TokenSays bs t s) (sym k) h
-says_kept bs Bad c s k h = subst (λ t. TokenSays bs t s) (sym k) h
-
-get_d_front : (ts : List Program.Token) (s : Program.Token) (k : ℕ) → k < length ts → get_or (ts ++ s ∷ []) k bad ≡ get_or ts k bad
-get_d_front [] s k h = absurd (omega arith)
-get_d_front (t ∷ ts) s zero h = refl
-get_d_front (t ∷ ts) s (suc k) h = get_d_front ts s k (omega arith)
-
-getD_last : (ts : List Program.Token) (s : Program.Token) → get_or (ts ++ s ∷ []) (length ts) bad ≡ s
-getD_last [] s = refl
-getD_last (t ∷ ts) s = getD_last ts s
-
-length_more : (ts : List Program.Token) (s : Program.Token) → length (ts ++ s ∷ []) ≡ suc (length ts)
-length_more [] s = refl
-length_more (t ∷ ts) s = ap suc (length_more ts s)
-
 pub far_token : (bs m m₁ : List ℕ) (i n to : ℕ) (t : Token) (s : Program.Token) (c : Cell) → i < length bs → i < to → ((k : ℕ) → tokens (suc k) (drop i bs) ≡ s ∷ tokens k (drop to bs)) →
-    TokenSays bs t s → TokenKept t c → Stored m m₁ n c → Far bs m i n → Far bs m₁ to (n + 1)
+    TokenSays bs t s → token_of c ≡ t → Stored m m₁ n c → Far bs m i n → Far bs m₁ to (n + 1)
 far_token bs m m₁ i n to t s c l h e a b w f = go f.fuel f.enough f.split
   where
     written : List Program.Token
@@ -65,33 +43,29 @@ far_token bs m m₁ i n to t s c l h e a b w f = go f.fuel f.enough f.split
         here : (x : Bool) → ltb k n ≡ x → TokenSays bs (token_of (cell m₁ k)) (get_or (f.written ++ s ∷ []) k bad)
         here true y =
             let z : k < n = ltb-true k n y in
-            let p : get_or (f.written ++ s ∷ []) k bad ≡ get_or f.written k bad = get_d_front f.written s k (omega (arith, f.count)) in
+            let p : get_or (f.written ++ s ∷ []) k bad ≡ get_or f.written k bad = get_or_append_left f.written (s ∷ []) bad k (omega (arith, f.count)) in
             subst (λ u. TokenSays bs (token_of (cell m₁ k)) u) (sym p) (subst (λ d. TokenSays bs (token_of d) (get_or f.written k bad)) (sym (w.others k (λ j. omega arith))) (f.each k z))
         here false y =
             let z : k ≡ n = omega (arith, ltb-false k n y) in
-            let p : get_or (f.written ++ s ∷ []) k bad ≡ s = ap (λ j. get_or (f.written ++ s ∷ []) j bad) (z ∙ f.count) ∙ getD_last f.written s in
-            subst (λ u. TokenSays bs (token_of (cell m₁ k)) u) (sym p) (subst (λ d. TokenSays bs (token_of d) s) (sym (ap (cell m₁) z ∙ w.here)) (says_kept bs t c s b a))
+            let p : get_or (f.written ++ s ∷ []) k bad ≡ s = get_or_at f.written s [] bad k (sym (z ∙ f.count)) in
+            subst (λ u. TokenSays bs (token_of (cell m₁ k)) u) (sym p) (subst (λ d. TokenSays bs (token_of d) s) (sym (ap (cell m₁) z ∙ w.here)) (subst (λ t. TokenSays bs t s) (sym b) a))
 
     go : (k : ℕ) → length bs < i + k → cut_up bs ≡ f.written ++ tokens k (drop i bs) → Far bs m₁ to (n + 1)
     go zero e s = absurd (omega arith)
     go (suc k) p q =
         record {
           written = f.written ++ s ∷ [];
-          count = omega (arith, f.count, length_more f.written s);
+          count = omega (arith, f.count, length-append f.written (s ∷ []));
           each = at;
           fuel = k;
           enough = omega arith;
           split = q ∙ ap (λ r. f.written ++ r) (e k) ∙ sym (append_assoc f.written (s ∷ []) (tokens k (drop to bs)));
         }
 
-append_none : (l : List Program.Token) → l ++ [] ≡ l
-append_none [] = refl
-append_none (x ∷ l) = ap (λ r. x ∷ r) (append_none l)
-
 pub far_end : (bs m : List ℕ) (i n : ℕ) → length bs ≤ i → n ≤ length bs → Far bs m i n → TokensIn bs m n
 unfolding tokens
 far_end bs m i n h q f =
-    let e : cut_up bs ≡ f.written = f.split ∙ ap (λ r. f.written ++ r) (ap (λ l. tokens f.fuel l) (drop_out bs i h) ∙ none_left f.fuel) ∙ append_none f.written in
+    let e : cut_up bs ≡ f.written = f.split ∙ ap (λ r. f.written ++ r) (ap (λ l. tokens f.fuel l) (drop_all i bs h) ∙ none_left f.fuel) ∙ append-nil f.written in
     record { count = f.count ∙ ap length (sym e); few = q; each = λ k p. subst (λ ts. TokenSays bs (token_of (cell m k)) (get_or ts k bad)) (sym e) (f.each k p) }
   where
     none_left : (k : ℕ) → tokens k [] ≡ []
@@ -99,8 +73,7 @@ far_end bs m i n h q f =
     none_left (suc k) = refl
 
 -- the token at a place
-first_says : (bs : List ℕ) (t : Token) (s : Program.Token) (us vs : List Program.Token) → us ≡ s ∷ vs → TokenSays bs t s → Seen bs t us
-first_says bs Over s us vs e h = absurd h
+first_says : (bs : List ℕ) (t : Token) (s : Program.Token) (us vs : List Program.Token) → us ≡ s ∷ vs → TokenSays bs t s → Seen bs (Some t) us
 first_says bs (AName x) s us vs e h = (e ∙ ap₂ (λ a l. a ∷ l) h.0 (sym (ap rest e)), h.1, h.2)
 first_says bs (AKeyword x) s us vs e h = e ∙ ap₂ (λ a l. a ∷ l) h (sym (ap rest e))
 first_says bs (Number x) s us vs e h = e ∙ ap₂ (λ a l. a ∷ l) h (sym (ap rest e))
@@ -108,16 +81,10 @@ first_says bs (Quoted x) s us vs e h = (e ∙ ap₂ (λ a l. a ∷ l) h.0 (sym (
 first_says bs (Sign x) s us vs e h = e ∙ ap₂ (λ a l. a ∷ l) h (sym (ap rest e))
 first_says bs Bad s us vs e h = e ∙ ap₂ (λ a l. a ∷ l) h (sym (ap rest e))
 
-drop_end : (ts : List Program.Token) (i : ℕ) → length ts ≤ i → drop i ts ≡ []
-drop_end [] zero h = refl
-drop_end [] (suc i) h = refl
-drop_end (b ∷ ts) zero h = absurd (omega arith)
-drop_end (b ∷ ts) (suc i) h = drop_end ts i (omega arith)
-
-pub seen_here : (bs m : List ℕ) (n place : ℕ) (t : Token) → t ≡ token_of (cell m place) → place < n → TokensIn bs m n → Seen bs t (drop place (cut_up bs))
+pub seen_here : (bs m : List ℕ) (n place : ℕ) (t : Token) → t ≡ token_of (cell m place) → place < n → TokensIn bs m n → Seen bs (Some t) (drop place (cut_up bs))
 seen_here bs m n place t e h k =
     first_says bs t (get_or (cut_up bs) place bad) (drop place (cut_up bs)) (drop (suc place) (cut_up bs)) (drop-cons (cut_up bs) place bad (omega (arith, k.count)))
     (subst (λ u. TokenSays bs u (get_or (cut_up bs) place bad)) (sym e) (k.each place h))
 
 pub seen_none : (bs m : List ℕ) (n place : ℕ) → n ≤ place → TokensIn bs m n → drop place (cut_up bs) ≡ []
-seen_none bs m n place h k = drop_end (cut_up bs) place (omega (arith, k.count))
+seen_none bs m n place h k = drop_all place (cut_up bs) (omega (arith, k.count))

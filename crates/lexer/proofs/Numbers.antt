@@ -1,43 +1,38 @@
 -- Digits in a text, step by step.
-use Rattle.std.proofs.Common.{◌≡◌, ℕ, suc, ◌+◌, ◌-◌, ◌*◌, ◌^◌, ◌<◌, ◌≤◌, Bool, true, false, ◌&&◌, leb, List, length, get_or, drop, refl, add-one, arith, drop-cons, le-leb}
+use Rattle.std.proofs.Common.{◌≡◌, ℕ, suc, ◌+◌, ◌-◌, ◌*◌, ◌^◌, ◌<◌, ◌≤◌, Bool, true, false, cond, ◌&&◌, leb, leb-true, List, [], ◌∷◌, length, get_or, take, drop, refl, arith}
+use Rattle.std.proofs.lemmas.List.{drop_more, drop_all}
+use Rattle.std.specs.List.{prefix_len}
 use native.Mathlib.Nat.{pow-succ', pow-le-pow_right}
-use borrow.Author.Tests.{lt-leb}
 use Rattle.language.specs.Text.{digit, leading}
-use Rattle.language.specs.Program.{digits_part}
-use Rattle.lexer.proofs.Words.{drop_out}
 
--- a digit: one more, and the value goes on
-pub record On (bs : List ℕ) (i : ℕ) : Type 0 where
-  pub more : length (digits_part (drop i bs)) ≡ suc (length (digits_part (drop (i + 1) bs)))
-  pub worth : (n : ℕ) → leading n (drop i bs) ≡ leading (10 * n + (get_or bs i 0 - 48)) (drop (i + 1) bs)
+-- a digit: the value goes on
+pub digit_on : (cs : List ℕ) (i n : ℕ) → i < length cs → digit (get_or cs i 0) ≡ true → leading n (drop i cs) ≡ leading (10 * n + (get_or cs i 0 - 48)) (drop (i + 1) cs)
+unfolding leading
+digit_on cs i n h t = rw (drop_more cs i 0 h, t) refl
 
-pub record Off (bs : List ℕ) (i : ℕ) : Type 0 where
-  pub more : length (digits_part (drop i bs)) ≡ 0
-  pub worth : (n : ℕ) → leading n (drop i bs) ≡ n
+pub digits_done : (cs : List ℕ) (i n : ℕ) → length cs ≤ i → leading n (drop i cs) ≡ n
+unfolding leading
+digits_done cs i n h = rw (drop_all i cs h) refl
 
-pub digits_on : (bs : List ℕ) (i : ℕ) → i < length bs → 48 ≤ get_or bs i 0 → get_or bs i 0 ≤ 57 → On bs i
-unfolding digits_part leading
-digits_on bs i h p q =
-    let t : digit (get_or bs i 0) ≡ true = rw (le-leb 48 (get_or bs i 0) p, le-leb (get_or bs i 0) 57 q) refl in
-    record { more = rw (drop-cons bs i 0 h, add-one i, t) refl; worth = λ n. rw (drop-cons bs i 0 h, add-one i, t) refl }
+-- the digits in front are all that counts
+pub leading_digits : (n : ℕ) (cs : List ℕ) → leading n (take (prefix_len digit cs) cs) ≡ leading n cs
+unfolding leading
+leading_digits n [] = refl
+leading_digits n (c ∷ cs) = go (leading_digits (10 * n + (c - 48)) cs) (digit c) refl
+  where
+    go : leading (10 * n + (c - 48)) (take (prefix_len digit cs) cs) ≡ leading (10 * n + (c - 48)) cs → (b : Bool) → digit c ≡ b → leading n (take (cond b (1 + prefix_len digit cs) 0) (c ∷ cs)) ≡ leading n (c ∷ cs)
+    go h true t =
+        let e : 1 + prefix_len digit cs ≡ suc (prefix_len digit cs) = omega arith in
+        rw (e, t) h
+    go h false t = rw t refl
 
-digits_not : (bs : List ℕ) (i : ℕ) → i < length bs → digit (get_or bs i 0) ≡ false → Off bs i
-unfolding digits_part leading
-digits_not bs i h t = record { more = rw (drop-cons bs i 0 h, t) refl; worth = λ n. rw (drop-cons bs i 0 h, t) refl }
-
-and_false : (a : Bool) → (a && false) ≡ false
-and_false true = refl
-and_false false = refl
-
-pub digits_below : (bs : List ℕ) (i : ℕ) → i < length bs → get_or bs i 0 < 48 → Off bs i
-digits_below bs i h p = digits_not bs i h (rw (lt-leb 48 (get_or bs i 0) p) refl)
-
-pub digits_above : (bs : List ℕ) (i : ℕ) → i < length bs → 57 < get_or bs i 0 → Off bs i
-digits_above bs i h p = digits_not bs i h (rw (lt-leb (get_or bs i 0) 57 p) (and_false (leb 48 (get_or bs i 0))))
-
-pub digits_out : (bs : List ℕ) (i : ℕ) → length bs ≤ i → Off bs i
-unfolding digits_part leading
-digits_out bs i h = record { more = rw (drop_out bs i h) refl; worth = λ n. rw (drop_out bs i h) refl }
+pub digit_byte : (c : ℕ) → digit c ≡ true → (48 ≤ c) × (c ≤ 57)
+digit_byte c t = go (leb 48 c) refl (leb c 57) refl t
+  where
+    go : (a : Bool) → leb 48 c ≡ a → (b : Bool) → leb c 57 ≡ b → (a && b) ≡ true → (48 ≤ c) × (c ≤ 57)
+    go true p true q h = (leb-true 48 c p, leb-true c 57 q)
+    go true p false q h = cc
+    go false p b q h = cc
 
 -- up to 18 digits fit
 pub small : (n k : ℕ) → k < 18 → n < 10 ^ k → n < 10 ^ 17

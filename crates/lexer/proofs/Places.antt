@@ -1,8 +1,10 @@
 -- Names and patterns at a place.
-use Rattle.std.proofs.Common.{◌≡◌, ℕ, ◌+◌, ◌*◌, ◌≤◌, true, false, not, List, [], ◌∷◌, length, drop, refl, ap, ◌∙◌, arith}
+use Rattle.std.proofs.Common.{◌≡◌, ℕ, ◌+◌, ◌*◌, ◌≤◌, true, false, not, List, [], ◌∷◌, length, drop, Some, refl, ap, ◌∙◌, arith}
 use Rattle.language.specs.Text.{same, none_of, Pattern}
 use Rattle.language.specs.Program.{Got, none, got, rest, word, quoted, name_of, pattern_here, kept_word, pattern_of, whole_pattern, pattern, quote_part, first_pattern}
-use Rattle.lexer.specs.Marks.{bytes_of, spelled}
+use Rattle.lexer.specs.Marks.{bytes_of, spelled, Seen}
+use Rattle.lexer.specs.declared.tokens.Token.{Token}
+use Rattle.lexer.specs.declared.tokens.Token.TheVariants.{Name as AName, Keyword as AKeyword, Number, Quoted, Sign, Bad}
 use Rattle.lexer.specs.declared.tokens.Name.{Name}
 use Rattle.lexer.specs.declared.tokens.Keyword.{Keyword}
 use Rattle.lexer.specs.declared.tokens.Keyword.TheVariants.{Begin, End, Function, If, Else, While, For, In, Print, Next, Exit, Delete, Return, Length, Upper, Index, Substr, Split, Swap}
@@ -35,8 +37,21 @@ keyword_kept Substr = refl
 keyword_kept Split = refl
 keyword_kept Swap = refl
 
-pub no_name_here : (bs : List ℕ) (p : ℕ) (k : Keyword) → toks bs p ≡ word (spelled k) ∷ rest (toks bs p) → name_of (toks bs p) ≡ none
-no_name_here bs p k e = ap name_of e ∙ picked (kept_word (spelled k)) none (got (spelled k) (rest (toks bs p))) (keyword_kept k)
+pub no_name_here : (bs : List ℕ) (p : ℕ) (t : Token) → Seen bs (Some t) (toks bs p) → ((x : Name) → t ≡ AName x → ⊥) → name_of (toks bs p) ≡ none
+no_name_here bs p (AName x) e n = absurd (n x refl)
+no_name_here bs p (AKeyword k) e n = ap name_of e ∙ picked (kept_word (spelled k)) none (got (spelled k) (rest (toks bs p))) (keyword_kept k)
+no_name_here bs p (Number x) e n = ap name_of e
+no_name_here bs p (Quoted q) e n = ap name_of e.0
+no_name_here bs p (Sign d) e n = ap name_of e
+no_name_here bs p Bad e n = ap name_of e
+
+pub no_quote_here : (bs : List ℕ) (p : ℕ) (t : Token) → Seen bs (Some t) (toks bs p) → ((q : ℕ) → t ≡ Quoted q → ⊥) → pattern_here (toks bs p) ≡ none
+no_quote_here bs p (AName x) e n = ap pattern_here e.0
+no_quote_here bs p (AKeyword k) e n = ap pattern_here e
+no_quote_here bs p (Number x) e n = ap pattern_here e
+no_quote_here bs p (Quoted q) e n = absurd (n q refl)
+no_quote_here bs p (Sign d) e n = ap pattern_here e
+no_quote_here bs p Bad e n = ap pattern_here e
 
 whole_one : (g : Got ℕ Pattern) → not (none_of (whole_pattern g)) ≡ true → (p : Pattern) × (whole_pattern g ≡ p ∷ [])
 unfolding whole_pattern

@@ -1,91 +1,104 @@
--- Words in a text, step by step.
-use Rattle.std.proofs.Common.{◌≡◌, ℕ, zero, suc, ◌+◌, ◌<◌, ◌≤◌, Bool, true, false, ltb, List, [], ◌∷◌, length, get_or, drop, sym, refl, ap, ◌∙◌, add-one, arith, drop-cons, ltb-false, ltb-true, eq-eqb, ne_eqb}
-use Rattle.language.specs.Text.{or, digit}
+-- Words, lines and quotes in a text.
+use Rattle.std.proofs.Common.{◌≡◌, ℕ, suc, ◌+◌, ◌<◌, ◌≤◌, Bool, true, false, not, cond, ltb, List, [], ◌∷◌, length, get_or, drop, Some, None, sym, refl, ap, ◌∙◌, arith, ltb-false, ltb-true, eqb, ne_eqb}
+use Rattle.std.proofs.lemmas.List.{drop_more, drop_all, drop-drop}
+use Rattle.std.specs.List.{prefix_len, position_or_len, position}
+use Rattle.language.specs.Text.{pick, or, digit}
 use Rattle.lexer.specs.Ends.{QuoteEnded}
-use Rattle.language.specs.Program.{letter, word_part, past_line, past_quote, quote_ends}
+use Rattle.lexer.specs.Quotes.{EndsAlike}
+use Rattle.language.specs.Program.{letter, word_part, digits_part, past_line, past_quote, quote_ends}
 
--- one byte more of a word
-pub word_on : (bs : List ℕ) (i : ℕ) → i < length bs → or (letter (get_or bs i 0)) (digit (get_or bs i 0)) ≡ true → length (word_part (drop i bs)) ≡ suc (length (word_part (drop (i + 1) bs)))
+-- a word, and digits, are as long as the bytes in front that pass
+pub word_length : (cs : List ℕ) → length (word_part cs) ≡ prefix_len (λ c. or (letter c) (digit c)) cs
 unfolding word_part
-word_on bs i h t = rw (drop-cons bs i 0 h, add-one i, t) refl
+word_length [] = refl
+word_length (c ∷ cs) = go (or (letter c) (digit c)) (word_length cs)
+  where
+    go : (b : Bool) → length (word_part cs) ≡ prefix_len (λ c. or (letter c) (digit c)) cs → length (pick b (c ∷ word_part cs) []) ≡ cond b (1 + prefix_len (λ c. or (letter c) (digit c)) cs) 0
+    go true h = omega arith
+    go false h = refl
 
-pub word_off : (bs : List ℕ) (i : ℕ) → i < length bs → or (letter (get_or bs i 0)) (digit (get_or bs i 0)) ≡ false → length (word_part (drop i bs)) ≡ 0
-unfolding word_part
-word_off bs i h t = rw (drop-cons bs i 0 h, t) refl
+pub digits_length : (cs : List ℕ) → length (digits_part cs) ≡ prefix_len digit cs
+unfolding digits_part
+digits_length [] = refl
+digits_length (c ∷ cs) = go (digit c) (digits_length cs)
+  where
+    go : (b : Bool) → length (digits_part cs) ≡ prefix_len digit cs → length (pick b (c ∷ digits_part cs) []) ≡ cond b (1 + prefix_len digit cs) 0
+    go true h = omega arith
+    go false h = refl
 
-pub word_out : (bs : List ℕ) (i : ℕ) → length bs ≤ i → length (word_part (drop i bs)) ≡ 0
-unfolding word_part
-word_out [] zero h = refl
-word_out [] (suc i) h = refl
-word_out (b ∷ bs) zero h = absurd (omega arith)
-word_out (b ∷ bs) (suc i) h = word_out bs i (omega arith)
-
-pub line_on : (bs : List ℕ) (i : ℕ) → i < length bs → (get_or bs i 0 ≡ 10 → ⊥) → past_line (drop i bs) ≡ past_line (drop (i + 1) bs)
+-- a line ends behind its first byte 10
+line_ends : (cs : List ℕ) → past_line cs ≡ drop (position_or_len (λ c. eqb c 10) cs + 1) cs
 unfolding past_line
-line_on bs i h t = rw (drop-cons bs i 0 h, add-one i, ne_eqb (get_or bs i 0) 10 t) refl
+line_ends [] = sym (drop_all 1 [] (omega arith))
+line_ends (c ∷ cs) = go (eqb c 10) (line_ends cs)
+  where
+    go : (b : Bool) → past_line cs ≡ drop (position_or_len (λ c. eqb c 10) cs + 1) cs →
+        pick b cs (past_line cs) ≡ drop (cond (not b) (1 + position_or_len (λ c. eqb c 10) cs) 0 + 1) (c ∷ cs)
+    go true h = refl
+    go false h =
+        let e : 1 + position_or_len (λ c. eqb c 10) cs + 1 ≡ suc (position_or_len (λ c. eqb c 10) cs + 1) = omega arith in
+        h ∙ ap (λ k. drop k (c ∷ cs)) (sym e)
 
-pub line_off : (bs : List ℕ) (i : ℕ) → i < length bs → get_or bs i 0 ≡ 10 → past_line (drop i bs) ≡ drop (i + 1) bs
-unfolding past_line
-line_off bs i h t = rw (drop-cons bs i 0 h, add-one i, eq-eqb (get_or bs i 0) 10 t) refl
+pub line_found : (bs : List ℕ) (from k : ℕ) → position (λ c. eqb c 10) (drop from bs) ≡ Some k → drop (from + k + 1) bs ≡ past_line (drop from bs)
+line_found bs from k e = go (ltb (position_or_len (λ c. eqb c 10) (drop from bs)) (length (drop from bs))) e
+  where
+    go : (b : Bool) → cond b (Some (position_or_len (λ c. eqb c 10) (drop from bs))) None ≡ Some k → drop (from + k + 1) bs ≡ past_line (drop from bs)
+    go true e =
+        let f : position_or_len (λ c. eqb c 10) (drop from bs) ≡ k = cc in
+        let a : from + (k + 1) ≡ from + k + 1 = omega arith in
+        sym (line_ends (drop from bs) ∙ ap (λ i. drop (i + 1) (drop from bs)) f ∙ drop-drop (k + 1) from bs ∙ ap (λ i. drop i bs) a)
+    go false e = cc
 
-pub drop_out : (bs : List ℕ) (i : ℕ) → length bs ≤ i → drop i bs ≡ []
-drop_out [] zero h = refl
-drop_out [] (suc i) h = refl
-drop_out (b ∷ bs) zero h = absurd (omega arith)
-drop_out (b ∷ bs) (suc i) h = drop_out bs i (omega arith)
+pub line_missing : (bs : List ℕ) (from : ℕ) → position (λ c. eqb c 10) (drop from bs) ≡ None → drop (length bs) bs ≡ past_line (drop from bs)
+line_missing bs from e = go (ltb (position_or_len (λ c. eqb c 10) (drop from bs)) (length (drop from bs))) refl e
+  where
+    go : (b : Bool) → ltb (position_or_len (λ c. eqb c 10) (drop from bs)) (length (drop from bs)) ≡ b →
+        cond b (Some (position_or_len (λ c. eqb c 10) (drop from bs))) None ≡ None → drop (length bs) bs ≡ past_line (drop from bs)
+    go true t e = cc
+    go false t e =
+        let l : length (drop from bs) ≤ position_or_len (λ c. eqb c 10) (drop from bs) + 1 = omega (arith, ltb-false _ _ t) in
+        drop_all (length bs) bs (omega arith) ∙ sym (line_ends (drop from bs) ∙ drop_all _ (drop from bs) l)
 
-pub line_out : (bs : List ℕ) (i : ℕ) → length bs ≤ i → past_line (drop i bs) ≡ drop i bs
-unfolding past_line
-line_out bs i h = rw (drop_out bs i h) refl
-
--- quotes: at the end, at a quote, at \ before another byte, at any other byte
-pub record Both (bs : List ℕ) (i j : ℕ) : Type 0 where
-  pub past : past_quote (drop i bs) ≡ past_quote (drop j bs)
-  pub ends : quote_ends (drop i bs) ≡ quote_ends (drop j bs)
-
+-- quotes: at a quote, at \ before another byte, at any other byte
 pub two_on : (bs : List ℕ) (i : ℕ) → i + 1 < length bs → drop i bs ≡ get_or bs i 0 ∷ get_or bs (i + 1) 0 ∷ drop (i + 2) bs
 two_on bs i h =
-    let e : suc (i + 1) ≡ i + 2 = omega arith in
-    drop-cons bs i 0 (omega arith) ∙ ap (λ r. get_or bs i 0 ∷ r) (ap (λ k. drop k bs) (sym (add-one i)) ∙ drop-cons bs (i + 1) 0 h ∙ ap (λ k. get_or bs (i + 1) 0 ∷ drop k bs) e)
+    let e : i + 1 + 1 ≡ i + 2 = omega arith in
+    drop_more bs i 0 (omega arith) ∙ ap (λ r. get_or bs i 0 ∷ r) (drop_more bs (i + 1) 0 h ∙ ap (λ k. get_or bs (i + 1) 0 ∷ drop k bs) e)
 
-pub quote_two : (bs : List ℕ) (i : ℕ) → i + 1 < length bs → get_or bs i 0 ≡ 92 → Both bs i (i + 2)
+pub last_on : (bs : List ℕ) (i : ℕ) → i < length bs → length bs ≤ i + 1 → drop i bs ≡ get_or bs i 0 ∷ []
+last_on bs i h g = drop_more bs i 0 h ∙ ap (λ r. get_or bs i 0 ∷ r) (drop_all (i + 1) bs g)
+
+pub quote_two : (bs : List ℕ) (i : ℕ) → i + 1 < length bs → get_or bs i 0 ≡ 92 → EndsAlike bs i (i + 2)
 unfolding past_quote quote_ends
 quote_two bs i h t = record { past = rw (two_on bs i h, t) refl; ends = rw (two_on bs i h, t) refl }
 
-pub last_on : (bs : List ℕ) (i : ℕ) → i < length bs → length bs ≤ i + 1 → drop i bs ≡ get_or bs i 0 ∷ []
-last_on bs i h g = drop-cons bs i 0 h ∙ ap (λ r. get_or bs i 0 ∷ r) (drop_out bs (suc i) (omega arith))
-
-pub quote_last : (bs : List ℕ) (i : ℕ) → i < length bs → length bs ≤ i + 1 → (get_or bs i 0 ≡ 34 → ⊥) → Both bs i (i + 1)
+pub quote_one : (bs : List ℕ) (i : ℕ) → i < length bs → (get_or bs i 0 ≡ 34 → ⊥) → (get_or bs i 0 ≡ 92 → i + 1 < length bs → ⊥) → EndsAlike bs i (i + 1)
 unfolding past_quote quote_ends
-quote_last bs i h g t = record { past = rw (last_on bs i h g, drop_out bs (i + 1) g) refl; ends = rw (last_on bs i h g, drop_out bs (i + 1) g, ne_eqb (get_or bs i 0) 34 t) refl }
-
-pub quote_one : (bs : List ℕ) (i : ℕ) → i + 1 < length bs → (get_or bs i 0 ≡ 34 → ⊥) → (get_or bs i 0 ≡ 92 → ⊥) → Both bs i (i + 1)
-unfolding past_quote quote_ends
-quote_one bs i h t u =
-    let n : suc (i + 1) ≡ i + 2 = omega arith in
-    let e : drop (i + 1) bs ≡ get_or bs (i + 1) 0 ∷ drop (i + 2) bs = drop-cons bs (i + 1) 0 h ∙ ap (λ k. get_or bs (i + 1) 0 ∷ drop k bs) n in
-    record { past = rw (two_on bs i h, e, ne_eqb (get_or bs i 0) 34 t, ne_eqb (get_or bs i 0) 92 u) refl; ends = rw (two_on bs i h, e, ne_eqb (get_or bs i 0) 34 t, ne_eqb (get_or bs i 0) 92 u) refl }
-
-pub quote_done : (bs : List ℕ) (i : ℕ) → i < length bs → get_or bs i 0 ≡ 34 → (past_quote (drop i bs) ≡ drop (i + 1) bs) × (quote_ends (drop i bs) ≡ true)
-unfolding past_quote quote_ends
-quote_done bs i h t = go (drop (suc i) bs) refl
+quote_one bs i h t u = go (ltb (i + 1) (length bs)) refl
   where
-    go : (cs : List ℕ) → drop (suc i) bs ≡ cs → (past_quote (drop i bs) ≡ drop (i + 1) bs) × (quote_ends (drop i bs) ≡ true)
-    go [] e = (rw (drop-cons bs i 0 h, add-one i, e) refl, rw (drop-cons bs i 0 h, e, t) refl)
-    go (c ∷ cs) e = (rw (drop-cons bs i 0 h, add-one i, e, t) refl, rw (drop-cons bs i 0 h, e, t) refl)
+    go : (b : Bool) → ltb (i + 1) (length bs) ≡ b → EndsAlike bs i (i + 1)
+    go true e =
+        let g : i + 1 < length bs = ltb-true _ _ e in
+        let n : i + 1 + 1 ≡ i + 2 = omega arith in
+        let d : drop (i + 1) bs ≡ get_or bs (i + 1) 0 ∷ drop (i + 2) bs = drop_more bs (i + 1) 0 g ∙ ap (λ k. get_or bs (i + 1) 0 ∷ drop k bs) n in
+        let q = ne_eqb (get_or bs i 0) 34 t in
+        let s = ne_eqb (get_or bs i 0) 92 (λ z. u z g) in
+        record { past = rw (two_on bs i g, d, q, s) refl; ends = rw (two_on bs i g, d, q, s) refl }
+    go false e =
+        let g : length bs ≤ i + 1 = ltb-false _ _ e in
+        record { past = rw (last_on bs i h g, drop_all (i + 1) bs g) refl; ends = rw (last_on bs i h g, drop_all (i + 1) bs g, ne_eqb (get_or bs i 0) 34 t) refl }
 
-pub quote_out : (bs : List ℕ) (i : ℕ) → length bs ≤ i → quote_ends (drop i bs) ≡ false
+quote_done : (bs : List ℕ) (i : ℕ) → i < length bs → get_or bs i 0 ≡ 34 → (past_quote (drop i bs) ≡ drop (i + 1) bs) × (quote_ends (drop i bs) ≡ true)
+unfolding past_quote quote_ends
+quote_done bs i h t = go (drop (i + 1) bs) refl
+  where
+    go : (cs : List ℕ) → drop (i + 1) bs ≡ cs → (past_quote (drop i bs) ≡ drop (i + 1) bs) × (quote_ends (drop i bs) ≡ true)
+    go [] e = (rw (drop_more bs i 0 h, e) refl, rw (drop_more bs i 0 h, e, t) refl)
+    go (c ∷ cs) e = (rw (drop_more bs i 0 h, e, t) refl, rw (drop_more bs i 0 h, e, t) refl)
+
+pub quote_found : (bs : List ℕ) (from i : ℕ) → i < length bs → get_or bs i 0 ≡ 34 → from ≤ i → EndsAlike bs from i → QuoteEnded bs from (Some (i + 1))
+quote_found bs from i h t l e = let d = quote_done bs i h t in (e.ends ∙ d.1, sym (e.past ∙ d.0), omega arith, omega arith)
+
+pub quote_missing : (bs : List ℕ) (from i : ℕ) → length bs ≤ i → EndsAlike bs from i → QuoteEnded bs from None
 unfolding quote_ends
-quote_out bs i h = rw (drop_out bs i h) refl
-
-pub quote_found : (bs : List ℕ) (from i : ℕ) → i < length bs → get_or bs i 0 ≡ 34 → from ≤ i → past_quote (drop i bs) ≡ past_quote (drop from bs) → quote_ends (drop i bs) ≡ quote_ends (drop from bs) → QuoteEnded bs from (i + 1)
-quote_found bs from i h t l p q =
-    let d = quote_done bs i h t in
-    rw (add-one i) (sym q ∙ d.1, ap (λ k. drop k bs) (sym (add-one i)) ∙ sym d.0 ∙ p, l, h)
-
-pub quote_either : (bs : List ℕ) (i : ℕ) → i < length bs → (get_or bs i 0 ≡ 34 → ⊥) → (get_or bs i 0 ≡ 92 → ⊥) → Both bs i (i + 1)
-quote_either bs i h t u = go (ltb (i + 1) (length bs)) refl
-  where
-    go : (b : Bool) → ltb (i + 1) (length bs) ≡ b → Both bs i (i + 1)
-    go true e = quote_one bs i (ltb-true _ _ e) t u
-    go false e = quote_last bs i h (ltb-false _ _ e) t
+quote_missing bs from i h e = e.ends ∙ ap quote_ends (drop_all i bs h)

@@ -1,7 +1,7 @@
 -- Where the parts of a text end, and which sign two bytes are. Assumes nothing: these are definitions.
-use Rattle.std.specs.Prelude.{◌≡◌, ℕ, zero, suc, ◌+◌, ◌≤◌, true, false, ◌&&◌, List, length, drop, ◌==◌}
-use Rattle.language.specs.Text.{pick, leading}
-use Rattle.language.specs.Program.{a_sign, quote_ends, past_quote, digits_part}
+use Rattle.std.specs.Prelude.{◌≡◌, ℕ, ◌<◌, ◌≤◌, true, false, ◌&&◌, List, length, drop, Some, None, Option, ◌==◌, ◌≢◌}
+use Rattle.language.specs.Text.{pick}
+use Rattle.language.specs.Program.{a_sign, quote_ends, past_quote}
 
 -- the number of a sign of two bytes, 0 if they make none
 abbrev pub pair_of : ℕ → ℕ → ℕ
@@ -13,13 +13,12 @@ pair_of c d =
 abbrev pub sign_of : ℕ → ℕ → ℕ
 sign_of c d = pick (pair_of c d == 0) (pick (a_sign c) c 0) (pair_of c d)
 
--- where a quoted text ends: behind its closing quote, or 0 if there is none
-abbrev pub QuoteEnded : List ℕ → ℕ → ℕ → Type 0
-QuoteEnded bs from zero = quote_ends (drop from bs) ≡ false
-QuoteEnded bs from (suc r) = (quote_ends (drop from bs) ≡ true) × (drop (suc r) bs ≡ past_quote (drop from bs)) × (from ≤ r) × (suc r ≤ length bs)
+-- the sign that two bytes begin with, if they make one
+abbrev pub SignIs : ℕ → ℕ → Option ℕ → Type 0
+SignIs c d (Some s) = (s ≡ sign_of c d) × (s ≢ 0)
+SignIs c d None = sign_of c d ≡ 0
 
--- a number's value, if it has at most 18 digits, and where it ends
-pub record DigitsSay (bs : List ℕ) (from value end : ℕ) : Type 0 where
-  pub ends : end ≡ from + length (digits_part (drop from bs))
-  pub inside : end ≤ length bs
-  pub worth : end ≤ from + 18 → value ≡ leading 0 (drop from bs)
+-- where a quoted text ends: behind its closing quote, if there is one
+abbrev pub QuoteEnded : List ℕ → ℕ → Option ℕ → Type 0
+QuoteEnded bs from None = quote_ends (drop from bs) ≡ false
+QuoteEnded bs from (Some r) = (quote_ends (drop from bs) ≡ true) × (drop r bs ≡ past_quote (drop from bs)) × (from < r) × (r ≤ length bs)

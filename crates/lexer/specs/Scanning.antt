@@ -76,7 +76,7 @@ Means N fs true cs g = (p : Pattern) × (q : Pattern) × (marks_on N fs p q cs �
 -- how far a scan has come
 pub record Scans (bs : List ℕ) (from : ℕ) (s : Scan) : Type 0 where
   pub begun : List Begun
-  pub open_is : groups begun ≡ s.open
+  pub open_is : groups begun ≡ s.nested
   pub shorter : length (from_on bs s.at) ≤ length (from_on bs from)
   pub inside : s.at ≤ length bs
   pub means : Means (4 * length (from_on bs from) + 4) begun s.marks (from_on bs s.at) (pattern (4 * length (from_on bs from) + 4) (from_on bs from))
@@ -88,7 +88,7 @@ Scanned bs from m None = none_of (whole_pattern (pattern (4 * length (from_on bs
 
 -- at most one bracket more is open
 abbrev pub Opened : Scan → Option Scan → Type 0
-Opened s (Some t) = t.open ≤ s.open + 1
+Opened s (Some t) = t.nested ≤ s.nested + 1
 Opened s None = Unit {0}
 
 -- a byte that is no mark, no bracket ( ) and no |

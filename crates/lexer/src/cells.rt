@@ -1,5 +1,5 @@
 // The work area as numbered cells of seven words each.
-ghost use Rattle.std.specs.Prelude.{◌≡◌, ◌<◌, length};
+ghost use Rattle.std.specs.Prelude.{◌≡◌, ◌<◌, slice_index};
 ghost use Rattle.lexer.specs.Memory.{cell, Stored};
 
 // How many cells there are, and how many words they take.
@@ -7,8 +7,11 @@ pub const CELLS: usize = 25_600;
 
 pub const WORDS: usize = 179_200;
 
-// What a cell holds: a kind, a flag, and up to five numbers.
-#[derive(Clone, Copy)]
+// The words of the work area.
+pub type Work = [u64; WORDS];
+
+// What a cell holds: a kind, a flag, and up to five numbers; all are zero in one with nothing in it.
+#[derive(Clone, Copy, Default)]
 pub struct Cell {
     pub kind: u64,
     pub flag: u64,
@@ -19,57 +22,55 @@ pub struct Cell {
     pub fifth: u64,
 }
 
-// A cell with nothing in it.
-pub const BLANK: Cell = Cell {
-    kind: 0,
-    flag: 0,
-    first: 0,
-    second: 0,
-    third: 0,
-    fourth: 0,
-    fifth: 0,
-};
-
-// A cell; behind the last one all are zero.
-pub fn load(work: &[u64], i: usize) -> Cell
-    requires { length work.now ≡ 179200 }
-    ensures { result ≡ cell work.now i }
-{
-    if i < CELLS {
-        let at = 7 * i;
+impl Cell {
+    // A cell of a kind with its first four numbers; the flag and the fifth are zero.
+    pub fn new(kind: u64, numbers: [u64; 4]) -> Cell
+        ensures { result ≡ record { kind = kind; flag = 0; first = slice_index numbers 0; second = slice_index numbers 1; third = slice_index numbers 2; fourth = slice_index numbers 3; fifth = 0 } }
+    {
+        let [first, second, third, fourth] = numbers;
         Cell {
-            kind: work[at],
-            flag: work[at + 1],
-            first: work[at + 2],
-            second: work[at + 3],
-            third: work[at + 4],
-            fourth: work[at + 5],
-            fifth: work[at + 6],
-        }
-    } else {
-        Cell {
-            kind: 0,
-            flag: 0,
-            first: 0,
-            second: 0,
-            third: 0,
-            fourth: 0,
-            fifth: 0,
+            kind,
+            first,
+            second,
+            third,
+            fourth,
+            ..Cell::default()
         }
     }
 }
 
+// A cell; behind the last one all are zero.
+pub fn load(work: &Work, i: usize) -> Cell
+    ensures { result ≡ cell work.now i }
+{
+    if i >= CELLS {
+        return Cell::default();
+    }
+    let at = 7 * i;
+    Cell {
+        kind: work[at],
+        flag: work[at + 1],
+        first: work[at + 2],
+        second: work[at + 3],
+        third: work[at + 4],
+        fourth: work[at + 5],
+        fifth: work[at + 6],
+    }
+}
+
 // Writes a cell, and no other.
-pub fn store(work: &mut [u64], i: usize, cell: Cell)
-    requires { (length work.old ≡ 179200) × (i < 25600) }
+pub fn store(work: &mut Work, i: usize, cell: Cell)
+    requires { i < 25600 }
     ensures { Stored work.old work.new i cell }
 {
     let at = 7 * i;
-    work[at] = cell.kind;
-    work[at + 1] = cell.flag;
-    work[at + 2] = cell.first;
-    work[at + 3] = cell.second;
-    work[at + 4] = cell.third;
-    work[at + 5] = cell.fourth;
-    work[at + 6] = cell.fifth;
+    work[at..at + 7].copy_from_slice(&[
+        cell.kind,
+        cell.flag,
+        cell.first,
+        cell.second,
+        cell.third,
+        cell.fourth,
+        cell.fifth,
+    ]);
 }

@@ -1,23 +1,24 @@
 // Cuts a program's text into tokens, one to a cell.
-ghost use Rattle.std.specs.Prelude.{◌≡◌, ℕ, ◌+◌, ◌-◌, ◌<◌, ◌≤◌, List, length, drop, slice_index, slice_range};
-ghost use Rattle.language.specs.Text.{or, same, digit};
+ghost use Rattle.std.specs.Prelude.{◌≡◌, ℕ, ◌+◌, ◌<◌, ◌≤◌, true, List, length, drop, slice_index, slice_range};
+ghost use Rattle.language.specs.Text.{or, same, digit, leading};
 ghost use Rattle.language.specs.Program.{letter, word_part, past_line, word, cut_up};
-ghost use Rattle.lexer.specs.Ends.{sign_of, QuoteEnded, DigitsSay};
+ghost use Rattle.lexer.specs.Ends.{SignIs, QuoteEnded};
 ghost use Rattle.lexer.specs.Classes.{class_of};
-ghost use Rattle.lexer.specs.Marks.{KeywordIs, BuiltInIs, TokenSays, Seen, PieceSays, TokenKept, token_of, keyword_at, TokensIn};
+ghost use Rattle.lexer.specs.Marks.{spelled, KeywordIs, TokenSays, Seen, PieceSays, token_of, keyword_at, TokensIn};
 ghost use Rattle.lexer.specs.declared.tokens.Class.TheVariants.{Digit, Quote, Other};
 
-use crate::cells::{Cell, load, store};
+use crate::cells::{Cell, Work, load, store};
+use crate::patterns::byte_at;
 
 // A name in the text: where it begins, and how many bytes it has.
-#[derive(Clone, Copy)]
+#[derive(Clone, Copy, PartialEq, Eq)]
 pub struct Name {
     pub start: usize,
     pub len: usize,
 }
 
 // The reserved words.
-#[derive(Clone, Copy)]
+#[derive(Clone, Copy, PartialEq, Eq)]
 pub enum Keyword {
     Begin,
     End,
@@ -40,54 +41,61 @@ pub enum Keyword {
     Swap,
 }
 
-#[derive(Clone, Copy)]
+#[derive(Clone, Copy, PartialEq, Eq)]
 pub enum Token {
-    // There are no more tokens.
-    Over,
     Name(Name),
     Keyword(Keyword),
     Number(u64),
     // A quoted text, by where its bytes begin.
     Quoted(usize),
-    // A sign of one byte is that byte; 1 ==, 2 !=, 3 <=, 4 >=, 5 &&, 6 ||, 7 !~.
+    // A sign by its number, which the specification gives: one of one byte is that byte.
     Sign(u8),
     Bad,
 }
+
+// The signs of two bytes, by the numbers that the specification gives them: == != <= >= && || !~.
+pub const EQUAL: u8 = 1;
+
+pub const UNEQUAL: u8 = 2;
+
+pub const AT_MOST: u8 = 3;
+
+pub const AT_LEAST: u8 = 4;
+
+pub const AND: u8 = 5;
+
+pub const OR: u8 = 6;
+
+pub const UNLIKE: u8 = 7;
 
 // Whether a byte can stand in a word.
 fn in_word(c: u8) -> bool
     ensures { result ≡ or (letter c) (digit c) }
 {
-    match c {
-        b'a'..=b'z' | b'A'..=b'Z' | b'_' | b'0'..=b'9' => true,
-        _ => false,
-    }
+    matches!(c, b'a'..=b'z' | b'A'..=b'Z' | b'_' | b'0'..=b'9')
 }
 
 // Where the word ends that begins at `from`.
 fn past_word(text: &[u8], from: usize) -> usize
     requires { from ≤ length text.now }
-    ensures { (result ≡ from + length (word_part (drop from text.now))) × (result ≤ length text.now) }
+    ensures is { result ≡ from + length (word_part (drop from text.now)) }
+    ensures inside { result ≤ length text.now }
 {
-    let mut i = from;
-    while i < text.len() && in_word(text[i]) {
-        i += 1;
-    }
-    i
+    from + text[from..].iter().take_while(|c| in_word(**c)).count()
 }
 
-// The sign that a byte begins with another behind it: 1 to 7 for two bytes, its byte for one, 0 for none.
-fn sign(c: u8, behind: u8) -> u8
-    ensures { result ≡ sign_of c behind }
+// The sign that a byte begins with another behind it, if they make one: of two bytes, or its byte.
+fn sign(c: u8, behind: u8) -> Option<u8>
+    ensures { SignIs c behind result }
 {
     match (c, behind) {
-        (b'=', b'=') => 1,
-        (b'!', b'=') => 2,
-        (b'<', b'=') => 3,
-        (b'>', b'=') => 4,
-        (b'&', b'&') => 5,
-        (b'|', b'|') => 6,
-        (b'!', b'~') => 7,
+        (b'=', b'=') => Some(EQUAL),
+        (b'!', b'=') => Some(UNEQUAL),
+        (b'<', b'=') => Some(AT_MOST),
+        (b'>', b'=') => Some(AT_LEAST),
+        (b'&', b'&') => Some(AND),
+        (b'|', b'|') => Some(OR),
+        (b'!', b'~') => Some(UNLIKE),
         (
             b'!'
             | b'$'
@@ -101,43 +109,34 @@ fn sign(c: u8, behind: u8) -> u8
             | b'}'
             | b'~',
             _,
-        ) => c,
-        _ => 0,
+        ) => Some(c),
+        _ => None,
     }
 }
 
 // Where the line ends that `from` stands in: behind its byte 10, or at the end of the text.
 fn past_line(text: &[u8], from: usize) -> usize
     requires { from ≤ length text.now }
-    ensures { (drop result text.now ≡ past_line (drop from text.now)) × ((from ≤ result) × (result ≤ length text.now)) }
+    ensures is { drop result text.now ≡ past_line (drop from text.now) }
+    ensures onward { from ≤ result }
+    ensures inside { result ≤ length text.now }
 {
-    let mut i = from;
-    while i < text.len() {
-        if text[i] == b'\n' {
-            return i + 1;
-        }
-        i += 1;
+    match text[from..].iter().position(|c| *c == b'\n') {
+        Some(before) => from + before + 1,
+        None => text.len(),
     }
-    i
 }
 
-// Where the quoted text ends whose bytes begin at `from`: behind its closing quote, or 0 if it has none.
-fn past_quote(text: &[u8], from: usize) -> usize
-    requires { (from ≤ length text.now) × (length text.now ≤ 4096) }
+// Where the quoted text ends whose bytes begin at `from`: behind its closing quote, if it has one.
+fn past_quote(text: &[u8], from: usize) -> Option<usize>
+    requires { from ≤ length text.now }
     ensures { QuoteEnded text.now from result }
 {
     let mut i = from;
-    while i < text.len() {
-        if text[i] == b'"' {
-            return i + 1;
-        }
-        if text[i] == b'\\' && i + 1 < text.len() {
-            i += 2;
-        } else {
-            i += 1;
-        }
+    while let Some(c) = byte_at(text, i) {
+        i = c.next;
     }
-    0
+    if i < text.len() { Some(i + 1) } else { None }
 }
 
 // What a byte begins.
@@ -164,61 +163,75 @@ fn begins(c: u8) -> Class
     }
 }
 
-// A number's value and where it ends; the value counts only if it has at most 18 digits.
-#[derive(Clone, Copy)]
-pub struct Digits {
-    value: u64,
-    end: usize,
-}
-
-fn number(text: &[u8], from: usize) -> Digits
-    requires { (from ≤ length text.now) × (length text.now ≤ 4096) }
-    ensures { DigitsSay text.now from result.value result.end }
+// The number that digits write, of which there are at most 18. A loop: how many came, by which the number fits, is not seen by what `fold` calls.
+fn value(digits: &[u8]) -> u64
+    requires few { length digits.now ≤ 18 }
+    requires digits { (k : ℕ) → k < length digits.now → digit (slice_index digits.now k) ≡ true }
+    ensures { result ≡ leading 0 digits.now }
 {
-    let mut i = from;
     let mut n: u64 = 0;
-    while i < text.len() && text[i] >= b'0' && text[i] <= b'9' {
-        if i - from < 18 {
-            n = 10 * n + (text[i] - b'0') as u64;
-        }
-        i += 1;
+    for c in digits {
+        n = 10 * n + u64::from(*c - b'0');
     }
-    Digits { value: n, end: i }
+    n
 }
 
 // Whether a word is spelled like another.
 pub fn spells(word: &[u8], with: &[u8]) -> bool
     ensures { result ≡ same word.now with.now }
 {
-    if word.len() != with.len() {
-        return false;
-    }
-    for i in 0..word.len() {
-        if word[i] != with[i] {
-            return false;
-        }
-    }
-    true
+    word == with
 }
 
-// Which function that is built in a word names, if it does.
-fn built_in(word: &[u8]) -> Option<Keyword>
-    ensures { BuiltInIs word.now result }
-{
-    if spells(word, b"length") {
-        Some(Keyword::Length)
-    } else if spells(word, b"upper") {
-        Some(Keyword::Upper)
-    } else if spells(word, b"index") {
-        Some(Keyword::Index)
-    } else if spells(word, b"substr") {
-        Some(Keyword::Substr)
-    } else if spells(word, b"split") {
-        Some(Keyword::Split)
-    } else if spells(word, b"swap") {
-        Some(Keyword::Swap)
-    } else {
-        None
+impl Keyword {
+    // All of them, each at its number.
+    const ALL: [Keyword; 19] = [
+        Keyword::Begin,
+        Keyword::End,
+        Keyword::Function,
+        Keyword::If,
+        Keyword::Else,
+        Keyword::While,
+        Keyword::For,
+        Keyword::In,
+        Keyword::Print,
+        Keyword::Next,
+        Keyword::Exit,
+        Keyword::Delete,
+        Keyword::Return,
+        Keyword::Length,
+        Keyword::Upper,
+        Keyword::Index,
+        Keyword::Substr,
+        Keyword::Split,
+        Keyword::Swap,
+    ];
+
+    #[tactic(auto, unfolding(crate::specs::Marks::spelled))]
+    fn spelling(self) -> &'static [u8]
+        ensures { result.now ≡ spelled self }
+    {
+        match self {
+            Keyword::Begin => b"BEGIN",
+            Keyword::End => b"END",
+            Keyword::Function => b"function",
+            Keyword::If => b"if",
+            Keyword::Else => b"else",
+            Keyword::While => b"while",
+            Keyword::For => b"for",
+            Keyword::In => b"in",
+            Keyword::Print => b"print",
+            Keyword::Next => b"next",
+            Keyword::Exit => b"exit",
+            Keyword::Delete => b"delete",
+            Keyword::Return => b"return",
+            Keyword::Length => b"length",
+            Keyword::Upper => b"upper",
+            Keyword::Index => b"index",
+            Keyword::Substr => b"substr",
+            Keyword::Split => b"split",
+            Keyword::Swap => b"swap",
+        }
     }
 }
 
@@ -226,42 +239,17 @@ fn built_in(word: &[u8]) -> Option<Keyword>
 fn reserved(word: &[u8]) -> Option<Keyword>
     ensures { KeywordIs word.now result }
 {
-    if spells(word, b"BEGIN") {
-        Some(Keyword::Begin)
-    } else if spells(word, b"END") {
-        Some(Keyword::End)
-    } else if spells(word, b"function") {
-        Some(Keyword::Function)
-    } else if spells(word, b"if") {
-        Some(Keyword::If)
-    } else if spells(word, b"else") {
-        Some(Keyword::Else)
-    } else if spells(word, b"while") {
-        Some(Keyword::While)
-    } else if spells(word, b"for") {
-        Some(Keyword::For)
-    } else if spells(word, b"in") {
-        Some(Keyword::In)
-    } else if spells(word, b"print") {
-        Some(Keyword::Print)
-    } else if spells(word, b"next") {
-        Some(Keyword::Next)
-    } else if spells(word, b"exit") {
-        Some(Keyword::Exit)
-    } else if spells(word, b"delete") {
-        Some(Keyword::Delete)
-    } else if spells(word, b"return") {
-        Some(Keyword::Return)
-    } else {
-        built_in(word)
-    }
+    Keyword::ALL
+        .iter()
+        .copied()
+        .find(|k| spells(word, k.spelling()))
 }
 
-// What stands at a place of the text: nothing that counts, or a token; and where it ends.
+// What stands at a place of the text, and where it ends; what does not count is no token.
 #[derive(Clone, Copy)]
-pub enum Piece {
-    Skip(usize),
-    Token(Token, usize),
+pub struct Piece {
+    pub token: Option<Token>,
+    pub end: usize,
 }
 
 // The token of a word.
@@ -278,58 +266,83 @@ fn word_token(text: &[u8], from: usize, to: usize) -> Token
     }
 }
 
-// The number at a place of the text; with more than 18 digits it is no token.
+// The number at a place of the text; with more than 18 digits it is no token of the language.
 fn number_piece(text: &[u8], i: usize) -> Piece
-    requires { (i < length text.now) × ((length text.now ≤ 4096) × (class_of (slice_index text.now i) ≡ Digit)) }
+    requires inside { i < length text.now }
+    requires class { class_of (slice_index text.now i) ≡ Digit }
     ensures { PieceSays text.now i result }
 {
-    let d = number(text, i);
-    if d.end - i <= 18 {
-        Piece::Token(Token::Number(d.value), d.end)
+    let digits = text[i..].iter().take_while(|c| c.is_ascii_digit()).count();
+    if digits <= 18 {
+        Piece {
+            token: Some(Token::Number(value(&text[i..i + digits]))),
+            end: i + digits,
+        }
     } else {
-        Piece::Token(Token::Bad, text.len())
+        bad_piece(text)
     }
 }
 
-// The quoted text at a place of the text; without a closing quote it is no token.
+// The quoted text at a place of the text; without a closing quote it is no token of the language.
 fn quote_piece(text: &[u8], i: usize) -> Piece
-    requires { (i < length text.now) × ((length text.now ≤ 4096) × (class_of (slice_index text.now i) ≡ Quote)) }
+    requires inside { i < length text.now }
+    requires class { class_of (slice_index text.now i) ≡ Quote }
     ensures { PieceSays text.now i result }
 {
-    let to = past_quote(text, i + 1);
-    if to == 0 {
-        Piece::Token(Token::Bad, text.len())
-    } else {
-        Piece::Token(Token::Quoted(i + 1), to)
+    match past_quote(text, i + 1) {
+        Some(end) => Piece {
+            token: Some(Token::Quoted(i + 1)),
+            end,
+        },
+        None => bad_piece(text),
     }
 }
 
 // The sign at a place of the text.
 fn sign_piece(text: &[u8], i: usize) -> Piece
-    requires { (i < length text.now) × ((length text.now ≤ 4096) × (class_of (slice_index text.now i) ≡ Other)) }
+    requires inside { i < length text.now }
+    requires class { class_of (slice_index text.now i) ≡ Other }
     ensures { PieceSays text.now i result }
 {
-    let behind = if i + 1 < text.len() { text[i + 1] } else { 0 };
-    let s = sign(text[i], behind);
-    if s == 0 {
-        Piece::Token(Token::Bad, text.len())
-    } else if s < 8 {
-        Piece::Token(Token::Sign(s), i + 2)
-    } else {
-        Piece::Token(Token::Sign(s), i + 1)
+    let behind = text.get(i + 1).copied().unwrap_or(0);
+    match sign(text[i], behind) {
+        Some(s) => Piece {
+            token: Some(Token::Sign(s)),
+            end: if s <= UNLIKE { i + 2 } else { i + 1 },
+        },
+        None => bad_piece(text),
+    }
+}
+
+// What is no token of the language; behind it nothing is read.
+fn bad_piece(text: &[u8]) -> Piece
+    ensures { result ≡ record { token = Some Token.Bad; end = length text.now } }
+{
+    Piece {
+        token: Some(Token::Bad),
+        end: text.len(),
     }
 }
 
 fn piece_at(text: &[u8], i: usize) -> Piece
-    requires { (i < length text.now) × (length text.now ≤ 4096) }
+    requires { i < length text.now }
     ensures { PieceSays text.now i result }
 {
     match begins(text[i]) {
-        Class::Gap => Piece::Skip(i + 1),
-        Class::Comment => Piece::Skip(past_line(text, i + 1)),
+        Class::Gap => Piece {
+            token: None,
+            end: i + 1,
+        },
+        Class::Comment => Piece {
+            token: None,
+            end: past_line(text, i + 1),
+        },
         Class::Letter => {
-            let to = past_word(text, i + 1);
-            Piece::Token(word_token(text, i, to), to)
+            let end = past_word(text, i + 1);
+            Piece {
+                token: Some(word_token(text, i, end)),
+                end,
+            }
         }
         Class::Digit => number_piece(text, i),
         Class::Quote => quote_piece(text, i),
@@ -348,112 +361,86 @@ const QUOTED: u64 = 4;
 
 const SIGN: u64 = 5;
 
-fn keyword_number(k: Keyword) -> u64
-    ensures { keyword_at result ≡ k }
-{
-    k as u64
-}
+impl From<Keyword> for u64 {
+    ghost from_gives = { λ k n. keyword_at n ≡ k };
 
-fn keyword_of(n: u64) -> Keyword
-    ensures { result ≡ keyword_at n }
-{
-    match n {
-        0 => Keyword::Begin,
-        1 => Keyword::End,
-        2 => Keyword::Function,
-        3 => Keyword::If,
-        4 => Keyword::Else,
-        5 => Keyword::While,
-        6 => Keyword::For,
-        7 => Keyword::In,
-        8 => Keyword::Print,
-        9 => Keyword::Next,
-        10 => Keyword::Exit,
-        11 => Keyword::Delete,
-        12 => Keyword::Return,
-        13 => Keyword::Length,
-        14 => Keyword::Upper,
-        15 => Keyword::Index,
-        16 => Keyword::Substr,
-        17 => Keyword::Split,
-        _ => Keyword::Swap,
+    fn from(k: Keyword) -> u64 {
+        k as u64
     }
 }
 
-fn numbers(kind: u64, first: u64, second: u64) -> Cell
-    ensures { result ≡ record { kind = kind; flag = 0; first = first; second = second; third = 0; fourth = 0; fifth = 0 } }
-{
-    Cell {
-        kind,
-        flag: 0,
-        first,
-        second,
-        third: 0,
-        fourth: 0,
-        fifth: 0,
-    }
-}
+// Any other number is the last word.
+impl From<u64> for Keyword {
+    ghost from_gives = { λ n k. k ≡ keyword_at n };
 
-// A token as a cell; that there are no more is never written.
-fn token_cell(token: Token) -> Cell
-    ensures { TokenKept token result }
-{
-    match token {
-        Token::Over => numbers(0, 0, 0),
-        Token::Name(x) => numbers(NAME, x.start as u64, x.len as u64),
-        Token::Keyword(k) => numbers(KEYWORD, keyword_number(k), 0),
-        Token::Number(n) => numbers(NUMBER, n, 0),
-        Token::Quoted(start) => numbers(QUOTED, start as u64, 0),
-        Token::Sign(d) => numbers(SIGN, d as u64, 0),
-        Token::Bad => numbers(0, 0, 0),
-    }
-}
-
-// The token in a cell.
-fn token_in(c: Cell) -> Token
-    ensures { result ≡ token_of c }
-{
-    match c.kind {
-        NAME => Token::Name(Name {
-            start: c.first as usize,
-            len: c.second as usize,
-        }),
-        KEYWORD => Token::Keyword(keyword_of(c.first)),
-        NUMBER => Token::Number(c.first),
-        QUOTED => Token::Quoted(c.first as usize),
-        SIGN => Token::Sign((c.first % 256) as u8),
-        _ => Token::Bad,
-    }
-}
-
-// Cuts a program's text into tokens, in the first cells, and says how many they are.
-pub fn cut(text: &[u8], work: &mut [u64]) -> usize
-    requires { (length text.now ≤ 4096) × (length work.old ≡ 179200) }
-    ensures { TokensIn text.now work.new result }
-{
-    let mut i: usize = 0;
-    let mut n: usize = 0;
-    while i < text.len() {
-        match piece_at(text, i) {
-            Piece::Skip(to) => i = to,
-            Piece::Token(t, to) => {
-                store(work, n, token_cell(t));
-                n += 1;
-                i = to;
-            }
+    fn from(n: u64) -> Keyword {
+        match Keyword::ALL.get(n as usize) {
+            Some(k) => *k,
+            None => Keyword::Swap,
         }
     }
-    n
 }
 
-// The token at a place.
-pub fn peek(work: &[u64], count: usize, place: usize) -> Token
-    requires { length work.now ≡ 179200 }
+impl From<Token> for Cell {
+    ghost from_gives = { λ t c. token_of c ≡ t };
+
+    #[tactic(auto, unfolding(crate::specs::Marks::token_of))]
+    fn from(token: Token) -> Cell {
+        match token {
+            Token::Name(x) => Cell::new(NAME, [x.start as u64, x.len as u64, 0, 0]),
+            Token::Keyword(k) => Cell::new(KEYWORD, [u64::from(k), 0, 0, 0]),
+            Token::Number(n) => Cell::new(NUMBER, [n, 0, 0, 0]),
+            Token::Quoted(start) => Cell::new(QUOTED, [start as u64, 0, 0, 0]),
+            Token::Sign(d) => Cell::new(SIGN, [u64::from(d), 0, 0, 0]),
+            Token::Bad => Cell::default(),
+        }
+    }
+}
+
+impl From<Cell> for Token {
+    ghost from_gives = { λ c t. t ≡ token_of c };
+
+    #[tactic(auto, unfolding(crate::specs::Marks::token_of))]
+    fn from(c: Cell) -> Token {
+        match c.kind {
+            NAME => Token::Name(Name {
+                start: c.first as usize,
+                len: c.second as usize,
+            }),
+            KEYWORD => Token::Keyword(Keyword::from(c.first)),
+            NUMBER => Token::Number(c.first),
+            QUOTED => Token::Quoted(c.first as usize),
+            SIGN => Token::Sign((c.first % 256) as u8),
+            _ => Token::Bad,
+        }
+    }
+}
+
+// Cuts a program's text into tokens, in the first cells, and says how many they are. A loop: an iterator would be a type for this one use.
+pub fn cut(text: &[u8], work: &mut Work) -> usize
+    requires { length text.now ≤ 4096 }
+    ensures { TokensIn text.now work.new result }
+{
+    let mut i = 0;
+    let mut count = 0;
+    while i < text.len() {
+        let piece = piece_at(text, i);
+        if let Some(token) = piece.token {
+            store(work, count, Cell::from(token));
+            count += 1;
+        }
+        i = piece.end;
+    }
+    count
+}
+
+// The token at a place, if there are so many.
+pub fn peek(work: &Work, count: usize, place: usize) -> Option<Token>
     ensures { (bs : List ℕ) → TokensIn bs work.now count → Seen bs result (drop place (cut_up bs)) }
 {
     if place < count {
-        token_in(load(work, place))
+        Some(Token::from(load(work, place)))
     } else {
-        Token::Over
+        None
     }
 }

@@ -1,5 +1,5 @@
 -- A call begins with the empty list, and each argument makes it longer, in memory.
-use Rattle.std.proofs.Common.{◌≡◌, ℕ, ◌+◌, ◌-◌, ◌<◌, Bool, true, false, ◌&&◌, eqb, List, ◌∷◌, sym, refl, ap, ◌∙◌, ap₂, arith}
+use Rattle.std.proofs.Common.{◌≡◌, ℕ, ◌+◌, ◌-◌, ◌<◌, Bool, true, false, ◌&&◌, eqb, List, ◌∷◌, Some, Option, sym, refl, ap, ◌∙◌, ap₂, arith}
 use Rattle.language.specs.Program.{Term, Terms, Reads, rest, sees, call, no_terms, term_and}
 use Rattle.language.specs.Known.{plain_term, plain_terms}
 use Rattle.lexer.specs.Memory.{cell, Kept}
@@ -36,13 +36,13 @@ module _ (bs m m₁ : List ℕ) (count : ℕ) (s : Spot) (v : Name) (room : Room
   behind_bracket = ap rest (rest_toks bs s.place) ∙ rest_two bs s.place
 
   -- what goes on from there
-  onwards : (m₂ : List ℕ) (r : Turn) → Pays bs m₁ m₂ count (s.nodes + 1) (effort count s - 2) (Before bs m₁ (record { place = s.place; depth = s.depth; nodes = s.nodes + 1 })) r → 2 < effort count s → Pays bs m m₂ count s.nodes (effort count s) (Before bs m s) r
+  onwards : (m₂ : List ℕ) (r : Turn) → Pays bs m₁ m₂ count (s.nodes + 1) (effort count s - 2) (Before bs m₁ (record { place = s.place; depth = s.depth; nodes = s.nodes + 1 })) (Some r) → 2 < effort count s → Pays bs m m₂ count s.nodes (effort count s) (Before bs m s) (Some r)
   onwards m₂ r x h =
-      goes_after bs m m₁ m₂ count s.nodes (s.nodes + 1) (effort count s) (effort count s - 2) (Before bs m s) (Before bs m₁ (record { place = s.place; depth = s.depth; nodes = s.nodes + 1 })) r (omega arith) room.low (omega arith) kept
+      goes_after bs m m₁ m₂ count s.nodes (s.nodes + 1) (effort count s) (effort count s - 2) (Before bs m s) (Before bs m₁ (record { place = s.place; depth = s.depth; nodes = s.nodes + 1 })) (Some r) (omega arith) room.low (omega arith) kept
       (λ g y. before_kept bs m m₁ s (s.nodes + 1) g (λ j a b. kept j (omega arith) b) (omega arith) (λ i q. w.others (21120 + i) (λ z. omega (arith, room.nodes, room.within, room.few))) y) x
 
   -- the bracket closes at once
-  pub call_none : (m₂ : List ℕ) (r : Turn) → sees 41 (toks bs (s.place + 2)) ≡ true → Grown m₁ m₂ (record { place = s.place; depth = s.depth; nodes = s.nodes + 1 }) (Call v s.nodes) false 3 8 r → Pays bs m m₂ count s.nodes (effort count s) (Before bs m s) r
+  pub call_none : (m₂ : List ℕ) (r : Turn) → sees 41 (toks bs (s.place + 2)) ≡ true → Grown m₁ m₂ (record { place = s.place; depth = s.depth; nodes = s.nodes + 1 }) (Call v s.nodes) false 3 8 r → Pays bs m m₂ count s.nodes (effort count s) (Before bs m s) (Some r)
   call_none m₂ r t q =
       let p = s.place in
       let x = bytes_of bs v in
@@ -65,7 +65,7 @@ module _ (bs m m₁ : List ℕ) (count : ℕ) (s : Spot) (v : Name) (room : Room
       (omega arith)
 
   -- an argument is to come
-  pub call_some : (m₂ : List ℕ) (r : Turn) → sees 41 (toks bs (s.place + 2)) ≡ false → Pushed m₁ m₂ (record { place = s.place; depth = s.depth; nodes = s.nodes + 1 }) (Arguments v s.nodes) 2 r → Pays bs m m₂ count s.nodes (effort count s) (Before bs m s) r
+  pub call_some : (m₂ : List ℕ) (r : Turn) → sees 41 (toks bs (s.place + 2)) ≡ false → Pushed m₁ m₂ (record { place = s.place; depth = s.depth; nodes = s.nodes + 1 }) (Arguments v s.nodes) 2 r → Pays bs m m₂ count s.nodes (effort count s) (Before bs m s) (Some r)
   unfolding FrameSays
   call_some m₂ r t q =
       let p = s.place in
@@ -118,14 +118,14 @@ module _ (bs m m₁ : List ℕ) (count : ℕ) (s : Spot) (i : ℕ) (v : Name) (l
 
   -- another argument is to come
   pub argument_more : (m₂ : List ℕ) (r : Turn) → sees 44 (toks bs s.place) ≡ true → Pushed m₁ m₂ (record { place = s.place; depth = s.depth - 1; nodes = s.nodes + 1 }) (Arguments v s.nodes) 1 r →
-      Pays bs m m₂ count s.nodes (effort count s + 3) (Ended bs m s i) r
+      Pays bs m m₂ count s.nodes (effort count s + 3) (Ended bs m s i) (Some r)
   unfolding FrameSays
   argument_more m₂ r t q =
       let s₁ : Spot = record { place = s.place; depth = s.depth - 1; nodes = s.nodes + 1 } in
       let ts = toks bs s.place in
       let d = o.deep in
       let a : s.place < count = sees_ahead bs m count s.place 44 k t in
-      goes_after bs m m₁ m₂ count s.nodes (s.nodes + 1) (effort count s + 3) (effort count s + 1) (Ended bs m s i) (Ended bs m s i) r (omega arith) room.low (omega arith) kept_then (λ g y. y)
+      goes_after bs m m₁ m₂ count s.nodes (s.nodes + 1) (effort count s + 3) (effort count s + 1) (Ended bs m s i) (Ended bs m s i) (Some r) (omega arith) room.low (omega arith) kept_then (λ g y. y)
       (pushed_goes bs m₁ m₂ count (effort count s + 1) (Ended bs m s i) s₁ (Arguments v s.nodes) 1 r q
       (record { within = omega arith; few = room.few; frames = omega (arith, room.frames); low = omega (arith, room.low); grown = omega arith; nodes = omega (arith, room.nodes) })
       (omega arith)
@@ -141,7 +141,7 @@ module _ (bs m m₁ : List ℕ) (count : ℕ) (s : Spot) (i : ℕ) (v : Name) (l
       )))
 
   -- the bracket closes
-  pub argument_last : (m₂ : List ℕ) (r : Turn) → sees 44 (toks bs s.place) ≡ false → Closing m₁ m₂ (record { place = s.place; depth = s.depth - 1; nodes = s.nodes + 1 }) (Call v s.nodes) false r (sees 41 (toks bs s.place)) →
+  pub argument_last : (m₂ : List ℕ) (r : Option Turn) → sees 44 (toks bs s.place) ≡ false → Closing m₁ m₂ (record { place = s.place; depth = s.depth - 1; nodes = s.nodes + 1 }) (Call v s.nodes) false r (sees 41 (toks bs s.place)) →
       Pays bs m m₂ count s.nodes (effort count s + 3) (Ended bs m s i) r
   argument_last m₂ r t q =
       let s₁ : Spot = record { place = s.place; depth = s.depth - 1; nodes = s.nodes + 1 } in

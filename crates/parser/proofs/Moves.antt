@@ -1,5 +1,6 @@
 -- Turns of reading an expression, in memory: a frame more, a node more, a failure.
-use Rattle.std.proofs.Common.{◌≡◌, ℕ, zero, suc, ◌+◌, ◌*◌, ◌<◌, ◌≤◌, Bool, true, false, not, ◌&&◌, eqb, leb, List, [], ◌∷◌, length, drop, sym, refl, ap, ◌∙◌, subst, arith}
+use Rattle.std.proofs.Common.{◌≡◌, ℕ, zero, suc, ◌+◌, ◌*◌, ◌<◌, ◌≤◌, Bool, true, false, not, ◌&&◌, eqb, leb, List, [], ◌∷◌, length, drop, Some, None, Option, sym, refl, ap, ◌∙◌, subst, arith}
+use mir.Val.{bool_byte}
 use Rattle.language.specs.Text.{Pattern}
 use Rattle.language.specs.Program
 use Rattle.language.specs.Program.{Term, num, txt, var, item, field, un, bin, like, there, put_in, call, part, split, swap, Terms, no_terms, term_and, none, Reads, cut_up, can_set}
@@ -15,7 +16,7 @@ use Rattle.parser.specs.declared.frames.Frame.{Frame}
 use Rattle.parser.specs.declared.frames.Frame.TheVariants.{Infix, Prefixed, Dollar, Assigning, Group, Indexing, Measuring, IndexFirst, IndexSecond, PartFirst, PartSecond, PartThird, SplitFirst, SwapFirst, SwapSecond, Arguments}
 use Rattle.parser.specs.declared.frames.Spot.{Spot}
 use Rattle.parser.specs.declared.frames.Turn.{Turn}
-use Rattle.parser.specs.declared.frames.Turn.TheVariants.{Operand, After, Done, Failed}
+use Rattle.parser.specs.declared.frames.Turn.TheVariants.{Operand, After, Done}
 use Rattle.parser.specs.Nodes.{term_of, bit, operator_number, prefix_number, At, ListAt, Tree, Chain, TermsAt, Made, Listed, a_place}
 use Rattle.lexer.specs.Places.{Named, QuotedAt, PatternAt, fuel, toks}
 use Rattle.parser.specs.Levels.{Enough}
@@ -66,15 +67,15 @@ low_fits bs m n (suc d) (f ∷ fs) x = let y = frame_low_is bs m n (frame_of (ce
 pub nothing_written : (n : ℕ) (m : List ℕ) → Kept 0 n m m
 nothing_written n m j a b = refl
 
-pub failed_goes : (bs m : List ℕ) (count n e : ℕ) (P : Reads Term → Type 0) → ((g : Reads Term) → P g → none ≡ g) → Pays bs m m count n e P Failed
+pub failed_goes : (bs m : List ℕ) (count n e : ℕ) (P : Reads Term → Type 0) → ((g : Reads Term) → P g → none ≡ g) → Pays bs m m count n e P None
 failed_goes bs m count n e P h = record { goes = record { kept = nothing_written n m; room = tt; falls = tt; meets = h }; spends = tt }
 
 pub pushed_goes : (bs m m₁ : List ℕ) (count e : ℕ) (P : Reads Term → Type 0) (s : Spot) (f : Frame) (k : ℕ) (r : Turn) → Pushed m m₁ s f k r →
     Room count s.nodes 0 (record { place = s.place + k; depth = s.depth + 1; nodes = s.nodes }) → effort count (record { place = s.place + k; depth = s.depth + 1; nodes = s.nodes }) < e →
     ((g : Reads Term) → P g → (fs : List Begun) × (b : Begun) × Stack bs m s.nodes s.depth fs × FrameSays bs m s.nodes f b × (before (fuel bs) (b ∷ fs) (toks bs (s.place + k)) ≡ g)) →
-    Pays bs m m₁ count s.nodes e P r
+    Pays bs m m₁ count s.nodes e P (Some r)
 pushed_goes bs m m₁ count e P s f k r w room falls h =
-    subst (λ t. Pays bs m m₁ count s.nodes e P t) (sym w.is)
+    subst (λ t. Pays bs m m₁ count s.nodes e P (Some t)) (sym w.is)
     (record {
       goes = record {
         kept = λ j a b. w.others j (λ z. omega (arith, room.nodes, room.within, room.few));
@@ -91,9 +92,9 @@ pushed_goes bs m m₁ count e P s f k r w room falls h =
 pub grown_goes_high : (bs m m₁ : List ℕ) (count e : ℕ) (P : Reads Term → Type 0) (s : Spot) (x : TermNode) (b : Bool) (k h : ℕ) (r : Turn) → Grown m m₁ s x b k h r →
     Room count s.nodes 1 (record { place = s.place + k; depth = s.depth; nodes = s.nodes + 1 }) → effort count (record { place = s.place + k; depth = s.depth; nodes = s.nodes + 1 }) + 3 < e →
     ((g : Reads Term) → P g → (fs : List Begun) × (a : Term) × Stack bs m s.nodes s.depth fs × Tree bs m₁ (s.nodes + 1) s.nodes a × (h ≤ 8) × (behind (fuel bs) fs h a (toks bs (s.place + k)) ≡ g)) →
-    Pays bs m m₁ count s.nodes e P r
+    Pays bs m m₁ count s.nodes e P (Some r)
 grown_goes_high bs m m₁ count e P s x b k h r w room falls y =
-    subst (λ t. Pays bs m m₁ count s.nodes e P t) (sym w.is)
+    subst (λ t. Pays bs m m₁ count s.nodes e P (Some t)) (sym w.is)
     (record {
       goes = record {
         kept = λ j p q. w.made.others j (λ z. omega arith);
@@ -116,39 +117,43 @@ grown_goes_high bs m m₁ count e P s x b k h r w room falls y =
 pub grown_goes : (bs m m₁ : List ℕ) (count e : ℕ) (P : Reads Term → Type 0) (s : Spot) (x : TermNode) (b : Bool) (k h : ℕ) (r : Turn) → Grown m m₁ s x b k h r → h ≤ 8 →
     Room count s.nodes 1 (record { place = s.place + k; depth = s.depth; nodes = s.nodes + 1 }) → effort count (record { place = s.place + k; depth = s.depth; nodes = s.nodes + 1 }) + 3 < e →
     ((g : Reads Term) → P g → (fs : List Begun) × (a : Term) × Stack bs m s.nodes s.depth fs × Tree bs m₁ (s.nodes + 1) s.nodes a × (behind (fuel bs) fs h a (toks bs (s.place + k)) ≡ g)) →
-    Pays bs m m₁ count s.nodes e P r
+    Pays bs m m₁ count s.nodes e P (Some r)
 grown_goes bs m m₁ count e P s x b k h r w high room falls y = grown_goes_high bs m m₁ count e P s x b k h r w room falls (λ g p. let z = y g p in (z.0, z.1, z.2, z.3, high, z.4))
 
 -- after something else was written
-pub goes_after : (bs m m₁ m₂ : List ℕ) (count n n₁ e e₁ : ℕ) (P Q : Reads Term → Type 0) (r : Turn) → n ≤ n₁ → 8448 ≤ n → 2 * n₁ + e₁ ≤ 2 * n + e → Kept 0 n m m₁ → ((g : Reads Term) → P g → Q g) → Pays bs m₁ m₂ count n₁ e₁ Q r → Pays bs m m₂ count n e P r
+pub goes_after : (bs m m₁ m₂ : List ℕ) (count n n₁ e e₁ : ℕ) (P Q : Reads Term → Type 0) (r : Option Turn) → n ≤ n₁ → 8448 ≤ n → 2 * n₁ + e₁ ≤ 2 * n + e → Kept 0 n m m₁ → ((g : Reads Term) → P g → Q g) → Pays bs m₁ m₂ count n₁ e₁ Q r → Pays bs m m₂ count n e P r
 goes_after bs m m₁ m₂ count n n₁ e e₁ P Q r l low paid k h x =
     record {
       goes = record { kept = λ j a b. x.goes.kept j a (omega arith) ∙ k j a b; room = less r x.goes.room; falls = falls r x.goes.falls; meets = λ g p. x.goes.meets g (h g p) };
       spends = spends r x.spends;
     }
   where
-    falls : (t : Turn) → Falls count e₁ t → Falls count e t
-    falls (Operand s) y = omega arith
-    falls (After s i h) y = omega arith
-    falls (Done s i) y = tt
-    falls Failed y = tt
+    falls : (t : Option Turn) → Falls count e₁ t → Falls count e t
+    falls (Some (Operand s)) y = omega arith
+    falls (Some (After s i h)) y = omega arith
+    falls (Some (Done s i)) y = tt
+    falls None y = tt
 
-    spends : (t : Turn) → Spends count n₁ e₁ t → Spends count n e t
-    spends (Operand s) y = omega arith
-    spends (After s i h) y = omega arith
-    spends (Done s i) y = omega arith
-    spends Failed y = tt
+    spends : (t : Option Turn) → Spends count n₁ e₁ t → Spends count n e t
+    spends (Some (Operand s)) y = omega arith
+    spends (Some (After s i h)) y = omega arith
+    spends (Some (Done s i)) y = omega arith
+    spends None y = tt
 
     weaker : (extra : ℕ) (s : Spot) → Room count n₁ extra s → Room count n extra s
     weaker extra s y = record { within = y.within; few = y.few; frames = y.frames; low = low; grown = omega (arith, y.grown); nodes = y.nodes }
 
-    less : (t : Turn) → Roomy count n₁ t → Roomy count n t
-    less (Operand s) y = weaker 0 s y
-    less (After s i h) y = weaker 1 s y
-    less (Done s i) y = weaker 1 s y
-    less Failed y = tt
+    less : (t : Option Turn) → Roomy count n₁ t → Roomy count n t
+    less (Some (Operand s)) y = weaker 0 s y
+    less (Some (After s i h)) y = weaker 1 s y
+    less (Some (Done s i)) y = weaker 1 s y
+    less None y = tt
 
 -- NODES
+
+pub bit_byte : (b : Bool) → bool_byte b ≡ bit b
+bit_byte true = refl
+bit_byte false = refl
 
 pub bit_is : (b : Bool) → eqb (bit b) 1 ≡ b
 bit_is true = refl

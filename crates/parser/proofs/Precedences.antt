@@ -1,5 +1,5 @@
 -- The level of a token is that of the grammar, and so is its operator.
-use Rattle.std.proofs.Common.{◌≡◌, ℕ, zero, suc, ◌+◌, ◌<◌, Bool, true, false, not, eqb, ◌⊎◌, List, [], ◌∷◌, sym, refl, ap, ◌∙◌, subst, inl, inr, arith, ne_eqb, eqb-true}
+use Rattle.std.proofs.Common.{◌≡◌, ℕ, zero, suc, ◌+◌, ◌<◌, Bool, true, false, not, eqb, ◌⊎◌, List, [], ◌∷◌, Some, sym, refl, ap, ◌∙◌, subst, inl, inr, arith, ne_eqb, eqb-true}
 use borrow.Author.Tests.{eqb-false}
 use Rattle.language.specs.Text.{pick, or, any, same}
 use Rattle.language.specs.Program
@@ -14,7 +14,7 @@ use Rattle.parser.specs.declared.frames.Spot.{Spot}
 use Rattle.lexer.specs.declared.tokens.Keyword.{Keyword}
 use Rattle.lexer.specs.declared.tokens.Keyword.TheVariants.{Begin, End, Function, If, Else, While, For, In, Print, Next, Exit, Delete, Return, Length, Upper, Index, Substr, Split, Swap}
 use Rattle.lexer.specs.declared.tokens.Token.{Token}
-use Rattle.lexer.specs.declared.tokens.Token.TheVariants.{Over, Name as AName, Keyword as AKeyword, Number, Quoted, Sign, Bad}
+use Rattle.lexer.specs.declared.tokens.Token.TheVariants.{Name as AName, Keyword as AKeyword, Number, Quoted, Sign, Bad}
 use Rattle.parser.proofs.Climb.{joined_at, chain_finds, or_then}
 use Rattle.parser.proofs.Binding.{op_sum, op_product}
 use Rattle.lexer.proofs.Reach.{ahead, sees_front}
@@ -66,9 +66,8 @@ keyword_is a Substr us = refl
 keyword_is a Split us = refl
 keyword_is a Swap us = refl
 
-pub level_is : (bs : List ℕ) (a : Term) (t : Token) (us : List Program.Token) → Seen bs t us → level_of a us ≡ level_at t (can_set a)
+pub level_is : (bs : List ℕ) (a : Term) (t : Token) (us : List Program.Token) → Seen bs (Some t) us → level_of a us ≡ level_at t (can_set a)
 unfolding compare_sign
-level_is bs a Over us x = ap (level_of a) x
 level_is bs a (AName v) us x =
     ap (level_of a) x.0 ∙ joined_at a (word (bytes_of bs v) ∷ rest us) (ap (λ b. or (not b) (any (same (bytes_of bs v)) (w_length ∷ w_upper ∷ w_index ∷ w_substr ∷ w_split ∷ w_swap ∷ []))) x.1)
 level_is bs a (AKeyword k) us x = ap (level_of a) x ∙ keyword_is a k (rest us)
@@ -80,8 +79,7 @@ level_is bs a Bad us x = ap (level_of a) x
 clash : false ≡ true → ⊥
 clash e = let z : ◌≡◌ {A = ℕ} 0 1 = cc in omega arith
 
-pub seen_sign : (bs : List ℕ) (c : ℕ) (t : Token) (us : List Program.Token) → Seen bs t us → sees c us ≡ true → t ≡ Sign c
-seen_sign bs c Over us x h = absurd (clash (sym (ap (sees c) x) ∙ h))
+pub seen_sign : (bs : List ℕ) (c : ℕ) (t : Token) (us : List Program.Token) → Seen bs (Some t) us → sees c us ≡ true → t ≡ Sign c
 seen_sign bs c (AName v) us x h = absurd (clash (sym (ap (sees c) x.0) ∙ h))
 seen_sign bs c (AKeyword k) us x h = absurd (clash (sym (ap (sees c) x) ∙ h))
 seen_sign bs c (Number n) us x h = absurd (clash (sym (ap (sees c) x) ∙ h))
@@ -90,13 +88,13 @@ seen_sign bs c (Sign d) us x h = ap Sign (sym (eqb-true c d (sym (ap (sees c) x)
 seen_sign bs c Bad us x h = absurd (clash (sym (ap (sees c) x) ∙ h))
 
 -- an operator by its sign
-op_by : (bs : List ℕ) (f : List Program.Token → ℕ) (c k : ℕ) (t : Token) (us : List Program.Token) → Seen bs t us → operator_number (sign_operator c) ≡ k → f (sign c ∷ rest us) ≡ k → sees c us ≡ true → operator_number (operator_at t) ≡ f us
+op_by : (bs : List ℕ) (f : List Program.Token → ℕ) (c k : ℕ) (t : Token) (us : List Program.Token) → Seen bs (Some t) us → operator_number (sign_operator c) ≡ k → f (sign c ∷ rest us) ≡ k → sees c us ≡ true → operator_number (operator_at t) ≡ f us
 op_by bs f c k t us x p q h = ap (λ y. operator_number (operator_at y)) (seen_sign bs c t us x h) ∙ p ∙ sym (ap f (sees_front c us h) ∙ q)
 
-pub op_or : (bs : List ℕ) (a : Term) (t : Token) (us : List Program.Token) → Seen bs t us → level_of a us ≡ 2 → operator_number (operator_at t) ≡ 0
+pub op_or : (bs : List ℕ) (a : Term) (t : Token) (us : List Program.Token) → Seen bs (Some t) us → level_of a us ≡ 2 → operator_number (operator_at t) ≡ 0
 op_or bs a t us x l = op_by bs (λ us. 0) 6 0 t us x refl refl (chain_finds 0 (tests a us) 1 l)
 
-pub op_and : (bs : List ℕ) (a : Term) (t : Token) (us : List Program.Token) → Seen bs t us → level_of a us ≡ 3 → operator_number (operator_at t) ≡ 1
+pub op_and : (bs : List ℕ) (a : Term) (t : Token) (us : List Program.Token) → Seen bs (Some t) us → level_of a us ≡ 3 → operator_number (operator_at t) ≡ 1
 op_and bs a t us x l = op_by bs (λ us. 1) 5 1 t us x refl refl (chain_finds 0 (tests a us) 2 l)
 
 compared : (a b c d e f : Bool) → not (eqb (pick a 2 (pick b 3 (pick c 4 (pick d 5 (pick e 13 (pick f 14 0)))))) 0) ≡ true → or a (or b (or c (or d (or e f)))) ≡ true
@@ -108,7 +106,7 @@ compared false false false false true f h = refl
 compared false false false false false true h = refl
 compared false false false false false false h = h
 
-pub op_compare : (bs : List ℕ) (a : Term) (t : Token) (us : List Program.Token) → Seen bs t us → level_of a us ≡ 5 → operator_number (operator_at t) ≡ compare_sign us
+pub op_compare : (bs : List ℕ) (a : Term) (t : Token) (us : List Program.Token) → Seen bs (Some t) us → level_of a us ≡ 5 → operator_number (operator_at t) ≡ compare_sign us
 unfolding compare_sign
 op_compare bs a t us x l =
     let P : Type 0 = operator_number (operator_at t) ≡ compare_sign us in
@@ -116,12 +114,12 @@ op_compare bs a t us x l =
     (or_then (sees 3 us) _ P (op_by bs compare_sign 3 5 t us x refl refl) (or_then (sees 62 us) (sees 4 us) P (op_by bs compare_sign 62 13 t us x refl refl) (op_by bs compare_sign 4 14 t us x refl refl)))))
     (compared (sees 1 us) (sees 2 us) (sees 60 us) (sees 3 us) (sees 62 us) (sees 4 us) (chain_finds 0 (tests a us) 4 l))
 
-pub op_add : (bs : List ℕ) (a : Term) (t : Token) (us : List Program.Token) → Seen bs t us → level_of a us ≡ 7 → operator_number (operator_at t) ≡ op_sum us
+pub op_add : (bs : List ℕ) (a : Term) (t : Token) (us : List Program.Token) → Seen bs (Some t) us → level_of a us ≡ 7 → operator_number (operator_at t) ≡ op_sum us
 op_add bs a t us x l =
     let P : Type 0 = operator_number (operator_at t) ≡ op_sum us in
     or_then (sees 43 us) (sees 45 us) P (op_by bs op_sum 43 6 t us x refl refl) (op_by bs op_sum 45 7 t us x refl refl) (chain_finds 0 (tests a us) 6 l)
 
-pub op_multiply : (bs : List ℕ) (a : Term) (t : Token) (us : List Program.Token) → Seen bs t us → level_of a us ≡ 8 → operator_number (operator_at t) ≡ op_product us
+pub op_multiply : (bs : List ℕ) (a : Term) (t : Token) (us : List Program.Token) → Seen bs (Some t) us → level_of a us ≡ 8 → operator_number (operator_at t) ≡ op_product us
 op_multiply bs a t us x l =
     let P : Type 0 = operator_number (operator_at t) ≡ op_product us in
     or_then (sees 42 us) (or (sees 47 us) (sees 37 us)) P (op_by bs op_product 42 8 t us x refl refl)
@@ -136,7 +134,6 @@ low_is bs m n (suc d) (f ∷ fs) x = (frame_low_is bs m n (frame_of (cell m (211
 
 -- where a token binds there is one
 pub level_ahead : (bs m : List ℕ) (n : ℕ) (s : Spot) (i h : ℕ) (t : Token) (l : ℕ) → TokensIn bs m n → Binds bs m s i h t l → s.place < n
-level_ahead bs m n s i h Over l k b = absurd (omega (arith, b.tighter, b.level_is))
 level_ahead bs m n s i h (AName v) l k b = ahead bs m n s.place _ _ k b.seen.0
 level_ahead bs m n s i h (AKeyword w) l k b = ahead bs m n s.place _ _ k b.seen
 level_ahead bs m n s i h (Number v) l k b = ahead bs m n s.place _ _ k b.seen

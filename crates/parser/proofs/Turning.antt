@@ -1,5 +1,5 @@
 -- Reading an expression, turn by turn.
-use Rattle.std.proofs.Common.{◌≡◌, ℕ, zero, suc, ◌+◌, ◌-◌, ◌*◌, ◌<◌, ◌≤◌, Bool, true, false, leb, List, [], ◌∷◌, length, drop, sym, refl, ◌∙◌, subst, arith, leb-false, leb-true}
+use Rattle.std.proofs.Common.{◌≡◌, ℕ, zero, suc, ◌+◌, ◌-◌, ◌*◌, ◌<◌, ◌≤◌, Bool, true, false, leb, List, [], ◌∷◌, length, drop, Some, sym, refl, ◌∙◌, subst, arith, leb-false, leb-true}
 use Rattle.language.specs.Program
 use Rattle.language.specs.Program.{Term, term, got, Reads, cut_up}
 use Rattle.lexer.specs.Memory.{Kept}
@@ -8,7 +8,7 @@ use Rattle.lexer.specs.Places.{fuel, toks, Ready}
 use Rattle.parser.specs.Parsing.{Start, TermGot, left}
 use Rattle.parser.specs.declared.frames.Spot.{Spot}
 use Rattle.parser.specs.declared.frames.Turn.{Turn}
-use Rattle.parser.specs.declared.frames.Turn.TheVariants.{Operand, After, Done, Failed}
+use Rattle.parser.specs.declared.frames.Turn.TheVariants.{Operand, After, Done}
 use Rattle.parser.proofs.Climb.{got_only}
 use Rattle.lexer.proofs.Within.{Within}
 use Rattle.parser.proofs.Fuel.{WTerm}
@@ -18,9 +18,9 @@ use Rattle.lexer.proofs.Reach.{ready_kept}
 pub record Far (bs m₀ m : List ℕ) (count place nodes : ℕ) (t : Turn) : Type 0 where
   pub ready : Ready bs m count
   pub kept : Kept 0 nodes m₀ m
-  pub room : Roomy count nodes t
-  pub spends : Spends count nodes (6 * (count - place)) t
-  pub meets : Met bs m t (term (fuel bs) (toks bs place))
+  pub room : Roomy count nodes (Some t)
+  pub spends : Spends count nodes (6 * (count - place)) (Some t)
+  pub meets : Met bs m (Some t) (term (fuel bs) (toks bs place))
 
 pub far_start : (bs m : List ℕ) (count place nodes : ℕ) → Ready bs m count → Start count place nodes → Far bs m m count place nodes (Operand (record { place = place; depth = 0; nodes = nodes }))
 unfolding Stack resume
@@ -37,21 +37,19 @@ far_start bs m count place nodes r s =
 pub room_here : (count n extra : ℕ) (s : Spot) → Room count n extra s → Room count s.nodes extra s
 room_here count n extra s r = record { within = r.within; few = r.few; frames = r.frames; low = omega (arith, r.low, r.grown); grown = omega arith; nodes = r.nodes }
 
-less_room : (count n n₁ : ℕ) (t : Turn) → n ≤ n₁ → 8448 ≤ n → Roomy count n₁ t → Roomy count n t
+less_room : (count n n₁ : ℕ) (t : Turn) → n ≤ n₁ → 8448 ≤ n → Roomy count n₁ (Some t) → Roomy count n (Some t)
 less_room count n n₁ (Operand s) l k r = record { within = r.within; few = r.few; frames = r.frames; low = k; grown = omega (arith, r.grown); nodes = r.nodes }
 less_room count n n₁ (After s i h) l k r = record { within = r.within; few = r.few; frames = r.frames; low = k; grown = omega (arith, r.grown); nodes = r.nodes }
 less_room count n n₁ (Done s i) l k r = record { within = r.within; few = r.few; frames = r.frames; low = k; grown = omega (arith, r.grown); nodes = r.nodes }
-less_room count n n₁ Failed l k r = tt
 
 -- what is left to pay for more nodes: a turn behind an operand is worth half of one
-spends_on : (count n n₁ e b : ℕ) (r : Turn) → 2 * n₁ + e ≤ 2 * n + 6 * b + 1 → Spends count n₁ e r → Spends count n (6 * b) r
+spends_on : (count n n₁ e b : ℕ) (r : Turn) → 2 * n₁ + e ≤ 2 * n + 6 * b + 1 → Spends count n₁ e (Some r) → Spends count n (6 * b) (Some r)
 spends_on count n n₁ e b (Operand s) l x = omega arith
 spends_on count n n₁ e b (After s i h) l x = omega arith
 spends_on count n n₁ e b (Done s i) l x = omega arith
-spends_on count n n₁ e b Failed l x = tt
 
-pub far_on : (bs m₀ m m₁ : List ℕ) (count place nodes extra e : ℕ) (s : Spot) (t r : Turn) (P : Reads Term → Type 0) → length m₁ ≡ length m → count ≤ 4096 → Room count nodes extra s → ((g : Reads Term) → Met bs m t g → P g) →
-    2 * s.nodes + e ≤ 2 * nodes + 6 * (count - place) + 1 → Pays bs m m₁ count s.nodes e P r → Far bs m₀ m count place nodes t → Far bs m₀ m₁ count place nodes r
+pub far_on : (bs m₀ m m₁ : List ℕ) (count place nodes extra e : ℕ) (s : Spot) (t r : Turn) (P : Reads Term → Type 0) → length m₁ ≡ length m → count ≤ 4096 → Room count nodes extra s → ((g : Reads Term) → Met bs m (Some t) g → P g) →
+    2 * s.nodes + e ≤ 2 * nodes + 6 * (count - place) + 1 → Pays bs m m₁ count s.nodes e P (Some r) → Far bs m₀ m count place nodes t → Far bs m₀ m₁ count place nodes r
 far_on bs m₀ m m₁ count place nodes extra e s t r P l few room h paid g f =
     record {
       ready = ready_kept bs m m₁ count nodes (omega (arith, few, room.low)) l (λ j a b. g.goes.kept j a (omega (arith, room.grown))) f.ready;
@@ -61,11 +59,10 @@ far_on bs m₀ m m₁ count place nodes extra e s t r P l few room h paid g f =
       meets = g.goes.meets (term (fuel bs) (toks bs place)) (h (term (fuel bs) (toks bs place)) f.meets);
     }
 
-pub falls_left : (count e : ℕ) (r : Turn) → Falls count e r → left count r < e + 1
+pub falls_left : (count e : ℕ) (r : Turn) → Falls count e (Some r) → left count r < e + 1
 falls_left count e (Operand s) h = omega arith
 falls_left count e (After s i k) h = omega arith
 falls_left count e (Done s i) h = omega arith
-falls_left count e Failed h = omega arith
 
 drop_more : (ts : List Program.Token) (p q : ℕ) → q ≤ p → length (drop p ts) ≤ length (drop q ts)
 drop_more ts p zero h = first ts p

@@ -1,5 +1,5 @@
 -- Reading expressions with a stack of what was begun: frames, what they still mean, and how they are kept. Assumes nothing: these are definitions.
-use Rattle.std.specs.Prelude.{◌≡◌, ℕ, zero, suc, ◌+◌, ◌-◌, ◌*◌, ◌<◌, ◌≤◌, Bool, true, false, List, [], ◌∷◌, ◌==◌, ◌≢◌}
+use Rattle.std.specs.Prelude.{◌≡◌, ℕ, zero, suc, ◌+◌, ◌-◌, ◌*◌, ◌<◌, ◌≤◌, Bool, true, false, List, [], ◌∷◌, Some, None, Option, ◌==◌, ◌≢◌}
 use Rattle.language.specs.Text.{pick, Pattern}
 use Rattle.language.specs.Program
 use Rattle.language.specs.Program.{Term, Terms, no_terms, term_and, item, field, un, bin, put_in, call, part, split, swap, none, got, with_got, Reads, past, sees, rest, name_of, pattern_here, can_set, term, args}
@@ -14,7 +14,7 @@ use Rattle.parser.specs.declared.frames.Frame.{Frame}
 use Rattle.parser.specs.declared.frames.Frame.TheVariants.{Infix, Prefixed, Dollar, Assigning, Group, Indexing, Measuring, IndexFirst, IndexSecond, PartFirst, PartSecond, PartThird, SplitFirst, SwapFirst, SwapSecond, Arguments}
 use Rattle.parser.specs.declared.frames.Spot.{Spot}
 use Rattle.parser.specs.declared.frames.Turn.{Turn}
-use Rattle.parser.specs.declared.frames.Turn.TheVariants.{Operand, After, Done, Failed}
+use Rattle.parser.specs.declared.frames.Turn.TheVariants.{Operand, After, Done}
 
 -- what was begun, and waits for an operand
 pub data Begun : Type 0 where
@@ -46,19 +46,7 @@ low [] = 0
 low (in_bin k o l ∷ fs) = suc k
 low (in_un o ∷ fs) = 8
 low (in_field ∷ fs) = 8
-low (in_set l ∷ fs) = 0
-low (in_brackets ∷ fs) = 0
-low (in_item x ∷ fs) = 0
-low (in_measure o ∷ fs) = 0
-low (in_index ∷ fs) = 0
-low (in_index_of a ∷ fs) = 0
-low (in_part ∷ fs) = 0
-low (in_part_of a ∷ fs) = 0
-low (in_part_at a b ∷ fs) = 0
-low (in_split ∷ fs) = 0
-low (in_swap p ∷ fs) = 0
-low (in_swap_by p a ∷ fs) = 0
-low (in_call x xs ∷ fs) = 0
+low (_ ∷ fs) = 0
 
 -- below which level it goes on once both sides are there: a comparison has two sides only
 abbrev pub high_of : ℕ → ℕ
@@ -160,12 +148,12 @@ pub record Whole (bs m : List ℕ) (s : Spot) (i : ℕ) (g : Reads Term) : Type 
   pub tree : Tree bs m s.nodes i operand
   pub means : got operand (toks bs s.place) ≡ g
 
--- what a turn came to
-abbrev pub Met : List ℕ → List ℕ → Turn → Reads Term → Type 0
-Met bs m (Operand s) g = Before bs m s g
-Met bs m (After s i h) g = Behind bs m s i h g
-Met bs m (Done s i) g = Whole bs m s i g
-Met bs m Failed g = none ≡ g
+-- what a turn came to; there is none where there is no expression
+abbrev pub Met : List ℕ → List ℕ → Option Turn → Reads Term → Type 0
+Met bs m (Some (Operand s)) g = Before bs m s g
+Met bs m (Some (After s i h)) g = Behind bs m s i h g
+Met bs m (Some (Done s i)) g = Whole bs m s i g
+Met bs m None g = none ≡ g
 
 -- there is room: three nodes for a token that was read, and a frame
 pub record Room (count n extra : ℕ) (s : Spot) : Type 0 where
@@ -176,38 +164,38 @@ pub record Room (count n extra : ℕ) (s : Spot) : Type 0 where
   pub grown : n ≤ s.nodes
   pub nodes : s.nodes + s.depth + extra ≤ 8448 + 3 * s.place
 
-abbrev pub Roomy : ℕ → ℕ → Turn → Type 0
-Roomy count n (Operand s) = Room count n 0 s
-Roomy count n (After s i h) = Room count n 1 s
-Roomy count n (Done s i) = Room count n 1 s
-Roomy count n Failed = Unit {0}
+abbrev pub Roomy : ℕ → ℕ → Option Turn → Type 0
+Roomy count n (Some (Operand s)) = Room count n 0 s
+Roomy count n (Some (After s i h)) = Room count n 1 s
+Roomy count n (Some (Done s i)) = Room count n 1 s
+Roomy count n None = Unit {0}
 
 -- how much is left to do
 abbrev pub effort : ℕ → Spot → ℕ
 effort count s = 6 * (count - s.place) + 2 * s.depth
 
-abbrev pub Falls : ℕ → ℕ → Turn → Type 0
-Falls count e (Operand s) = effort count s < e
-Falls count e (After s i h) = effort count s + 3 < e
-Falls count e (Done s i) = Unit {0}
-Falls count e Failed = Unit {0}
+abbrev pub Falls : ℕ → ℕ → Option Turn → Type 0
+Falls count e (Some (Operand s)) = effort count s < e
+Falls count e (Some (After s i h)) = effort count s + 3 < e
+Falls count e (Some (Done s i)) = Unit {0}
+Falls count e None = Unit {0}
 
 -- from n nodes and this much to do: each node that was written is paid for by what is less to do
-abbrev pub Spends : ℕ → ℕ → ℕ → Turn → Type 0
-Spends count n e (Operand s) = 2 * s.nodes + effort count s ≤ 2 * n + e
-Spends count n e (After s i h) = 2 * s.nodes + effort count s + 2 ≤ 2 * n + e
-Spends count n e (Done s i) = 2 * s.nodes + effort count s + 2 ≤ 2 * n + e
-Spends count n e Failed = Unit {0}
+abbrev pub Spends : ℕ → ℕ → ℕ → Option Turn → Type 0
+Spends count n e (Some (Operand s)) = 2 * s.nodes + effort count s ≤ 2 * n + e
+Spends count n e (Some (After s i h)) = 2 * s.nodes + effort count s + 2 ≤ 2 * n + e
+Spends count n e (Some (Done s i)) = 2 * s.nodes + effort count s + 2 ≤ 2 * n + e
+Spends count n e None = Unit {0}
 
 -- a turn from where the whole comes to each g of P: nodes below n are kept, there is room, less is left to do, and the whole still comes to g
-pub record Goes (bs m m₁ : List ℕ) (count n e : ℕ) (P : Reads Term → Type 0) (r : Turn) : Type 0 where
+pub record Goes (bs m m₁ : List ℕ) (count n e : ℕ) (P : Reads Term → Type 0) (r : Option Turn) : Type 0 where
   pub kept : Kept 0 n m m₁
   pub room : Roomy count n r
   pub falls : Falls count e r
   pub meets : (g : Reads Term) → P g → Met bs m₁ r g
 
 -- such a turn; and what is less to do pays for the nodes that it wrote
-pub record Pays (bs m m₁ : List ℕ) (count n e : ℕ) (P : Reads Term → Type 0) (r : Turn) : Type 0 where
+pub record Pays (bs m m₁ : List ℕ) (count n e : ℕ) (P : Reads Term → Type 0) (r : Option Turn) : Type 0 where
   pub goes : Goes bs m m₁ count n e P r
   pub spends : Spends count n e r
 
@@ -227,29 +215,17 @@ abbrev pub frame_low : Frame → ℕ
 frame_low (Infix l o i) = l
 frame_low (Prefixed p) = 8
 frame_low Dollar = 8
-frame_low (Assigning i) = 0
-frame_low Group = 0
-frame_low (Indexing v) = 0
-frame_low (Measuring p) = 0
-frame_low IndexFirst = 0
-frame_low (IndexSecond i) = 0
-frame_low PartFirst = 0
-frame_low (PartSecond i) = 0
-frame_low (PartThird i j) = 0
-frame_low SplitFirst = 0
-frame_low (SwapFirst q) = 0
-frame_low (SwapSecond q i) = 0
-frame_low (Arguments v i) = 0
+frame_low _ = 0
 
--- a sign closes: a node is written behind it; without it there is a failure
-abbrev pub Closing : List ℕ → List ℕ → Spot → TermNode → Bool → Turn → Bool → Type 0
-Closing m m₁ s x p r true = Grown m m₁ s x p 1 8 r
-Closing m m₁ s x p r false = (r ≡ Failed) × (m₁ ≡ m)
+-- a sign closes: a node is written behind it; without it there is no turn
+abbrev pub Closing : List ℕ → List ℕ → Spot → TermNode → Bool → Option Turn → Bool → Type 0
+Closing m m₁ s x p r true = (t : Turn) × (r ≡ Some t) × Grown m m₁ s x p 1 8 t
+Closing m m₁ s x p r false = (r ≡ None) × (m₁ ≡ m)
 
--- a comma: a frame is pushed behind it; without it there is a failure
-abbrev pub Parting : List ℕ → List ℕ → Spot → Frame → Turn → Bool → Type 0
-Parting m m₁ s f r true = Pushed m m₁ s f 1 r
-Parting m m₁ s f r false = (r ≡ Failed) × (m₁ ≡ m)
+-- a comma: a frame is pushed behind it; without it there is no turn
+abbrev pub Parting : List ℕ → List ℕ → Spot → Frame → Option Turn → Bool → Type 0
+Parting m m₁ s f r true = (t : Turn) × (r ≡ Some t) × Pushed m m₁ s f 1 t
+Parting m m₁ s f r false = (r ≡ None) × (m₁ ≡ m)
 
 -- the frame on top is this one
 pub record OnTop (m : List ℕ) (s : Spot) (f : Frame) : Type 0 where

@@ -3,3 +3,4 @@ pub mod Levels
 pub mod Frames
 pub mod Precedence
 pub mod Parsing
+pub mod Readers

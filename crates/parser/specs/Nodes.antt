@@ -120,17 +120,7 @@ pub record Listed (m m₁ : List ℕ) (i : ℕ) (x : ListNode) (p : Bool) : Type
 
 -- the node is a place, which can be assigned to
 abbrev pub a_place : TermNode → Bool
-a_place (Number k) = false
-a_place (Text q) = false
 a_place (Variable v) = true
 a_place (Item v j) = true
 a_place (Field j) = true
-a_place (Unary p j) = false
-a_place (Binary p j k) = false
-a_place (Like j q) = false
-a_place (There j v) = false
-a_place (Assign j k) = false
-a_place (Call v l) = false
-a_place (Part j k l) = false
-a_place (Split j v q) = false
-a_place (Swap q j k) = false
+a_place _ = false

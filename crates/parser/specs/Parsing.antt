@@ -6,7 +6,7 @@ use Rattle.parser.specs.Nodes.{Tree}
 use Rattle.lexer.specs.Places.{fuel, toks}
 use Rattle.parser.specs.Frames.{effort}
 use Rattle.parser.specs.declared.frames.Turn.{Turn}
-use Rattle.parser.specs.declared.frames.Turn.TheVariants.{Operand, After, Done, Failed}
+use Rattle.parser.specs.declared.frames.Turn.TheVariants.{Operand, After, Done}
 use Rattle.parser.specs.declared.expressions.Parsed.{Parsed}
 
 -- there is room to begin at a place, with the first free cell
@@ -48,4 +48,3 @@ abbrev pub left : ℕ → Turn → ℕ
 left count (Operand s) = effort count s + 1
 left count (After s i h) = effort count s + 4
 left count (Done s i) = 0
-left count Failed = 0

@@ -5,136 +5,52 @@ ghost use Rattle.lexer.specs.Memory.{cell};
 ghost use Rattle.lexer.specs.Marks.{spelled, TokensIn};
 ghost use Rattle.parser.specs.Nodes.{operator_number, prefix_number};
 ghost use Rattle.lexer.specs.Places.{toks, Ready};
-ghost use Rattle.parser.specs.Frames.{Room, Before, Behind, Ended, effort, Grown, Closing, Parting, OnTop, Pays};
-ghost use Rattle.parser.specs.declared.frames.Frame.TheVariants.{Group, SplitFirst, Arguments, SwapSecond};
+ghost use Rattle.parser.specs.Frames.{Room, Grown, Closing, Parting, OnTop};
+ghost use Rattle.parser.specs.declared.frames.Frame.TheVariants.{Infix, Group, SplitFirst, Arguments, SwapSecond};
 ghost use Rattle.language.specs.Text.{pick};
 ghost use Rattle.lexer.specs.Ahead.{NameHere, CallHere};
 ghost use Rattle.parser.specs.Parsing.{Start, TermRead, Paid};
-ghost use Rattle.parser.specs.Precedence.{level_at, operator_at, low_at, Binds};
+ghost use Rattle.parser.specs.Precedence.{level_at, operator_at, low_at, Binds, LikeSign};
 
 use crate::frames::{Frame, Spot, Turn, frame_at, push};
-use crate::nodes::{
-    ListNode, Operator, Prefix, TermNode, flag_of, is_place, is_plain, put_list, put_term,
-};
+use crate::nodes::{ListNode, Operator, Prefix, TermNode, is_place, is_plain, put_list, put_term};
 use lexer::ahead::{is_sign, name_at, pattern_at};
-use lexer::tokens::{Keyword, Name, Token, peek};
+use lexer::cells::Work;
+use lexer::tokens::{
+    AND, AT_LEAST, AT_MOST, EQUAL, Keyword, Name, OR, Token, UNEQUAL, UNLIKE, peek,
+};
+
+// Levels at which what follows an operand binds to it, from 1: assigning, ||, &&, matching, comparing, joining, + and -, and * / %. They are numbers since
+// a frame keeps one in a cell, and by their order it goes on or ends.
+const SETTING: u64 = 1;
+
+const MATCHING: u64 = 4;
+
+const COMPARING: u64 = 5;
+
+const JOINING: u64 = 6;
 
 // The level of operands, to which everything may bind.
 const TIGHTEST: u64 = 8;
 
 // Writes the node of an operand that is there, behind so many tokens; what follows may bind to it up to a level.
-fn make(work: &mut [u64], s: Spot, node: TermNode, plain: bool, eaten: usize, high: u64) -> Turn
-    requires { (length work.old ≡ 179200) × ((s.nodes < 25600) × ((s.place ≤ 4096) × (eaten ≤ 4))) }
-    ensures { Grown work.old work.new s node plain eaten high result }
+fn make(work: &mut Work, s: Spot, node: TermNode, plain: bool, eaten: usize, high: u64) -> Turn
+    requires nodes { s.nodes < 25600 }
+    requires place { s.place ≤ 4096 }
+    requires eaten { eaten ≤ 4 }
+    ensures grown { Grown work.old work.new s node plain eaten high result }
+    ensures long { length work.new ≡ 179200 }
 {
     put_term(work, s.nodes, node, plain);
     Turn::After(
         Spot {
             place: s.place + eaten,
-            depth: s.depth,
             nodes: s.nodes + 1,
+            ..s
         },
         s.nodes,
         high,
     )
-}
-
-// An operand that begins with a sign.
-fn begin_sign(text: &[u8], work: &mut [u64], count: usize, s: Spot, d: u8) -> Turn
-    requires { (Ready text.now work.old count) × ((Room count s.nodes 0 s) × (toks text.now s.place ≡ sign d ∷ rest (toks text.now s.place))) }
-    ensures { Pays text.now work.old work.new count s.nodes (effort count s) (Before text.now work.old s) result }
-{
-    match d {
-        b'!' => push(work, s, Frame::Prefixed(Prefix::Not), 1),
-        b'-' => push(work, s, Frame::Prefixed(Prefix::Negative), 1),
-        b'(' => push(work, s, Frame::Group, 1),
-        b'$' => push(work, s, Frame::Dollar, 1),
-        _ => Turn::Failed,
-    }
-}
-
-// f( with its arguments, or f() with none.
-fn begin_call(text: &[u8], work: &mut [u64], count: usize, s: Spot, x: Name) -> Turn
-    requires { (Ready text.now work.old count) × ((Room count s.nodes 0 s) × (CallHere text.now s.place x)) }
-    ensures { Pays text.now work.old work.new count s.nodes (effort count s) (Before text.now work.old s) result }
-{
-    put_list(work, s.nodes, ListNode::Empty, true);
-    let t = Spot {
-        place: s.place,
-        depth: s.depth,
-        nodes: s.nodes + 1,
-    };
-    if is_sign(work, count, s.place + 2, b')') {
-        make(work, t, TermNode::Call(x, s.nodes), false, 3, TIGHTEST)
-    } else {
-        push(work, t, Frame::Arguments(x, s.nodes), 2)
-    }
-}
-
-// An operand that begins with a name: an item, a call or a variable.
-fn begin_name(text: &[u8], work: &mut [u64], count: usize, s: Spot, x: Name) -> Turn
-    requires { (Ready text.now work.old count) × ((Room count s.nodes 0 s) × (NameHere text.now s.place x)) }
-    ensures { Pays text.now work.old work.new count s.nodes (effort count s) (Before text.now work.old s) result }
-{
-    if is_sign(work, count, s.place + 1, b'[') {
-        push(work, s, Frame::Indexing(x), 2)
-    } else if is_sign(work, count, s.place + 1, b'(') {
-        begin_call(text, work, count, s, x)
-    } else {
-        make(work, s, TermNode::Variable(x), true, 1, TIGHTEST)
-    }
-}
-
-// swap( with its pattern and the comma behind it.
-fn begin_swap(text: &[u8], work: &mut [u64], count: usize, s: Spot) -> Turn
-    requires { (Ready text.now work.old count) × ((Room count s.nodes 0 s) × ((toks text.now s.place ≡ word w_swap ∷ rest (toks text.now s.place)) × (sees 40 (toks text.now (s.place + 1)) ≡ true))) }
-    ensures { Pays text.now work.old work.new count s.nodes (effort count s) (Before text.now work.old s) result }
-{
-    match pattern_at(text, work, count, s.place + 2) {
-        Some(q) => {
-            if is_sign(work, count, s.place + 3, b',') {
-                push(work, s, Frame::SwapFirst(q), 4)
-            } else {
-                Turn::Failed
-            }
-        }
-        None => Turn::Failed,
-    }
-}
-
-// An operand that begins with a function that is built in; other reserved words begin none.
-fn begin_word(text: &[u8], work: &mut [u64], count: usize, s: Spot, k: Keyword) -> Turn
-    requires { (Ready text.now work.old count) × ((Room count s.nodes 0 s) × (toks text.now s.place ≡ word (spelled k) ∷ rest (toks text.now s.place))) }
-    ensures { Pays text.now work.old work.new count s.nodes (effort count s) (Before text.now work.old s) result }
-{
-    if !is_sign(work, count, s.place + 1, b'(') {
-        return Turn::Failed;
-    }
-    match k {
-        Keyword::Length => push(work, s, Frame::Measuring(Prefix::Length), 2),
-        Keyword::Upper => push(work, s, Frame::Measuring(Prefix::Upper), 2),
-        Keyword::Index => push(work, s, Frame::IndexFirst, 2),
-        Keyword::Substr => push(work, s, Frame::PartFirst, 2),
-        Keyword::Split => push(work, s, Frame::SplitFirst, 2),
-        Keyword::Swap => begin_swap(text, work, count, s),
-        _ => Turn::Failed,
-    }
-}
-
-// Begins to read an operand.
-fn begin(text: &[u8], work: &mut [u64], count: usize, s: Spot) -> Turn
-    requires { (Ready text.now work.old count) × (Room count s.nodes 0 s) }
-    ensures { Pays text.now work.old work.new count s.nodes (effort count s) (Before text.now work.old s) result }
-{
-    match peek(work, count, s.place) {
-        Token::Number(n) => make(work, s, TermNode::Number(n), true, 1, TIGHTEST),
-        Token::Quoted(start) => make(work, s, TermNode::Text(start), true, 1, TIGHTEST),
-        Token::Name(x) => begin_name(text, work, count, s, x),
-        Token::Keyword(k) => begin_word(text, work, count, s, k),
-        Token::Sign(d) => begin_sign(text, work, count, s, d),
-        Token::Over => Turn::Failed,
-        Token::Bad => Turn::Failed,
-    }
 }
 
 // The level at which what follows an operand binds to it: from 1 for =, which wants a place, to 8 for * / %; 0 if it does not.
@@ -142,12 +58,13 @@ fn level(token: Token, place: bool) -> u64
     ensures { result ≡ level_at token place }
 {
     match token {
-        Token::Sign(b'=') => flag_of(place),
-        Token::Sign(6) => 2,
-        Token::Sign(5) => 3,
-        Token::Sign(b'~' | 7) | Token::Keyword(Keyword::In) => 4,
-        Token::Sign(1..=4 | b'<' | b'>') => 5,
-        Token::Sign(b'$' | b'(' | b'!') | Token::Name(_) | Token::Number(_) | Token::Quoted(_) => 6,
+        Token::Sign(b'=') => u64::from(place),
+        Token::Sign(OR) => 2,
+        Token::Sign(AND) => 3,
+        Token::Sign(b'~' | UNLIKE) | Token::Keyword(Keyword::In) => MATCHING,
+        Token::Sign(EQUAL | UNEQUAL | AT_MOST | AT_LEAST | b'<' | b'>') => COMPARING,
+        Token::Sign(b'$' | b'(' | b'!') | Token::Name(_) | Token::Number(_) | Token::Quoted(_) =>
+            JOINING,
         Token::Keyword(
             Keyword::Length
             | Keyword::Upper
@@ -155,7 +72,7 @@ fn level(token: Token, place: bool) -> u64
             | Keyword::Substr
             | Keyword::Split
             | Keyword::Swap,
-        ) => 6,
+        ) => JOINING,
         Token::Sign(b'+' | b'-') => 7,
         Token::Sign(b'*' | b'/' | b'%') => 8,
         _ => 0,
@@ -167,14 +84,14 @@ fn operator(token: Token) -> Operator
     ensures { result ≡ operator_at token }
 {
     match token {
-        Token::Sign(6) => Operator::Or,
-        Token::Sign(5) => Operator::And,
-        Token::Sign(1) => Operator::Equal,
-        Token::Sign(2) => Operator::Unequal,
+        Token::Sign(OR) => Operator::Or,
+        Token::Sign(AND) => Operator::And,
+        Token::Sign(EQUAL) => Operator::Equal,
+        Token::Sign(UNEQUAL) => Operator::Unequal,
         Token::Sign(b'<') => Operator::Less,
-        Token::Sign(3) => Operator::AtMost,
+        Token::Sign(AT_MOST) => Operator::AtMost,
         Token::Sign(b'>') => Operator::More,
-        Token::Sign(4) => Operator::AtLeast,
+        Token::Sign(AT_LEAST) => Operator::AtLeast,
         Token::Sign(b'+') => Operator::Plus,
         Token::Sign(b'-') => Operator::Minus,
         Token::Sign(b'*') => Operator::Times,
@@ -185,8 +102,8 @@ fn operator(token: Token) -> Operator
 }
 
 // The loosest level that may go on within what was begun last.
-fn low(work: &[u64], depth: usize) -> u64
-    requires { (length work.now ≡ 179200) × (depth ≤ 4096) }
+fn low(work: &Work, depth: usize) -> u64
+    requires { depth ≤ 4096 }
     ensures { result ≡ low_at work.now depth }
 {
     if depth == 0 {
@@ -200,133 +117,11 @@ fn low(work: &[u64], depth: usize) -> u64
 }
 
 // Whether what binds at a level goes on here, behind an operand to which up to `high` may bind.
-fn binds(work: &[u64], depth: usize, level: u64, high: u64) -> bool
-    requires { (length work.now ≡ 179200) × (depth ≤ 4096) }
+fn binds(work: &Work, depth: usize, level: u64, high: u64) -> bool
+    requires { depth ≤ 4096 }
     ensures { result ≡ (nat_le (suc (low_at work.now depth)) level && nat_le level high) }
 {
     low(work, depth) < level && level <= high
-}
-
-// Behind ~ with a pattern.
-fn bind_like(
-    text: &[u8],
-    work: &mut [u64],
-    count: usize,
-    s: Spot,
-    node: usize,
-    high: u64,
-    token: Token,
-    level: u64,
-) -> Turn
-    requires { (Ready text.now work.old count) × ((Room count s.nodes 1 s) × ((Binds text.now work.old s node high token level) × ((level ≡ 4) × (sees 126 (toks text.now s.place) ≡ true)))) }
-    ensures { Pays text.now work.old work.new count s.nodes (effort count s + 3) (Behind text.now work.old s node high) result }
-{
-    match pattern_at(text, work, count, s.place + 1) {
-        Some(q) => make(work, s, TermNode::Like(node, q), false, 2, 3),
-        None => Turn::Failed,
-    }
-}
-
-// Behind !~ with a pattern: a ~ that is negated.
-fn bind_unlike(
-    text: &[u8],
-    work: &mut [u64],
-    count: usize,
-    s: Spot,
-    node: usize,
-    high: u64,
-    token: Token,
-    level: u64,
-) -> Turn
-    requires { (Ready text.now work.old count) × ((Room count s.nodes 1 s) × ((Binds text.now work.old s node high token level) × ((level ≡ 4) × ((sees 126 (toks text.now s.place) ≡ false) × (sees 7 (toks text.now s.place) ≡ true))))) }
-    ensures { Pays text.now work.old work.new count s.nodes (effort count s + 3) (Behind text.now work.old s node high) result }
-{
-    match pattern_at(text, work, count, s.place + 1) {
-        Some(q) => {
-            put_term(work, s.nodes, TermNode::Like(node, q), false);
-            let t = Spot {
-                place: s.place,
-                depth: s.depth,
-                nodes: s.nodes + 1,
-            };
-            make(work, t, TermNode::Unary(Prefix::Not, s.nodes), false, 2, 3)
-        }
-        None => Turn::Failed,
-    }
-}
-
-// Behind in with a table's name.
-fn bind_in(
-    text: &[u8],
-    work: &mut [u64],
-    count: usize,
-    s: Spot,
-    node: usize,
-    high: u64,
-    token: Token,
-    level: u64,
-) -> Turn
-    requires { (Ready text.now work.old count) × ((Room count s.nodes 1 s) × ((Binds text.now work.old s node high token level) × ((level ≡ 4) × ((sees 126 (toks text.now s.place) ≡ false) × (sees 7 (toks text.now s.place) ≡ false))))) }
-    ensures { Pays text.now work.old work.new count s.nodes (effort count s + 3) (Behind text.now work.old s node high) result }
-{
-    match name_at(work, count, s.place + 1) {
-        Some(x) => make(work, s, TermNode::There(node, x), false, 2, 3),
-        None => Turn::Failed,
-    }
-}
-
-// Behind an operand, to which a token binds at a level.
-fn bind(
-    text: &[u8],
-    work: &mut [u64],
-    count: usize,
-    s: Spot,
-    node: usize,
-    high: u64,
-    token: Token,
-    level: u64,
-) -> Turn
-    requires { (Ready text.now work.old count) × ((Room count s.nodes 1 s) × (Binds text.now work.old s node high token level)) }
-    ensures { Pays text.now work.old work.new count s.nodes (effort count s + 3) (Behind text.now work.old s node high) result }
-{
-    match level {
-        1 => push(work, s, Frame::Assigning(node), 1),
-        4 => {
-            if is_sign(work, count, s.place, b'~') {
-                bind_like(text, work, count, s, node, high, token, level)
-            } else if is_sign(work, count, s.place, 7) {
-                bind_unlike(text, work, count, s, node, high, token, level)
-            } else {
-                bind_in(text, work, count, s, node, high, token, level)
-            }
-        }
-        6 => push(work, s, Frame::Infix(6, Operator::Join, node), 0),
-        _ => push(work, s, Frame::Infix(level, operator(token), node), 1),
-    }
-}
-
-// A node behind a closing sign.
-fn close(work: &mut [u64], count: usize, s: Spot, c: u8, node: TermNode, plain: bool) -> Turn
-    requires { (length work.old ≡ 179200) × ((s.nodes < 25600) × (s.place ≤ 4096)) }
-    ensures { (bs : List ℕ) → TokensIn bs work.old count → Closing work.old work.new s node plain result (sees c (toks bs s.place)) }
-{
-    if is_sign(work, count, s.place, c) {
-        make(work, s, node, plain, 1, TIGHTEST)
-    } else {
-        Turn::Failed
-    }
-}
-
-// A frame behind a comma.
-fn part(work: &mut [u64], count: usize, s: Spot, frame: Frame) -> Turn
-    requires { (length work.old ≡ 179200) × ((s.depth ≤ 4096) × (s.place ≤ 4096)) }
-    ensures { (bs : List ℕ) → TokensIn bs work.old count → Parting work.old work.new s frame result (sees 44 (toks bs s.place)) }
-{
-    if is_sign(work, count, s.place, b',') {
-        push(work, s, frame, 1)
-    } else {
-        Turn::Failed
-    }
 }
 
 // Up to which level what follows may bind, once both sides of an operator are there: a comparison has two sides only.
@@ -334,22 +129,20 @@ fn high_of(level: u64) -> u64
     ensures { result ≡ pick (level == 5) 4 level }
 {
     match level {
-        5 => 4,
+        COMPARING => MATCHING,
         _ => level,
     }
 }
 
 // Whether two nodes are of the core.
-pub fn both_plain(work: &[u64], a: usize, b: usize) -> bool
-    requires { length work.now ≡ 179200 }
+pub fn both_plain(work: &Work, a: usize, b: usize) -> bool
     ensures { result ≡ ((cell work.now a).flag == 1 && (cell work.now b).flag == 1) }
 {
     is_plain(work, a) && is_plain(work, b)
 }
 
 // Whether an operator with these sides is of the core.
-fn infix_plain(work: &[u64], o: Operator, a: usize, b: usize) -> bool
-    requires { length work.now ≡ 179200 }
+fn infix_plain(work: &Work, o: Operator, a: usize, b: usize) -> bool
     ensures { result ≡ (not (operator_number o == 12) && ((cell work.now a).flag == 1 && (cell work.now b).flag == 1)) }
 {
     match o {
@@ -359,183 +152,411 @@ fn infix_plain(work: &[u64], o: Operator, a: usize, b: usize) -> bool
 }
 
 // Whether what stands before an operand is of the core with it.
-fn prefix_plain(work: &[u64], p: Prefix, a: usize) -> bool
-    requires { length work.now ≡ 179200 }
+fn prefix_plain(work: &Work, p: Prefix, a: usize) -> bool
     ensures { result ≡ (nat_le (prefix_number p) 1 && (cell work.now a).flag == 1) }
 {
     match p {
-        Prefix::Not => is_plain(work, a),
-        Prefix::Negative => is_plain(work, a),
-        Prefix::Length => false,
-        Prefix::Upper => false,
+        Prefix::Not | Prefix::Negative => is_plain(work, a),
+        Prefix::Length | Prefix::Upper => false,
     }
 }
 
-// Ends a bracket around an expression.
-fn finish_group(text: &[u8], work: &mut [u64], count: usize, s: Spot, node: usize) -> Turn
-    requires { (Ready text.now work.old count) × ((Room count s.nodes 1 s) × (OnTop work.old s Group)) }
-    ensures { Pays text.now work.old work.new count s.nodes (effort count s + 3) (Ended text.now work.old s node) result }
-{
-    if !is_sign(work, count, s.place, b')') {
-        return Turn::Failed;
+// What reads expressions: a text, the area with its tokens, and how many they are. Of a `&mut` in a struct a proof knows no length, so a ghost field says it.
+#[derive(Drop)]
+struct Reader<'a> {
+    text: &'a [u8],
+    work: &'a mut Work,
+    count: usize,
+    ghost long: { length work.now ≡ 179200 },
+}
+
+impl<'a> Reader<'a> {
+    ghost use Rattle.parser.specs.Readers.{Holds, Same, Begins, Follows, Finishes};
+
+    // Whether this sign is there.
+    fn is_sign(&self, place: usize, c: u8) -> bool
+        ensures { (bs : List ℕ) → TokensIn bs self.now.work.now self.now.count → result ≡ sees c (toks bs place) }
+    {
+        is_sign(self.work, self.count, place, c)
     }
-    Turn::After(
-        Spot {
+
+    // An operand that begins with a sign.
+    fn begin_sign(&mut self, s: Spot, d: u8) -> Option<Turn>
+        requires ready { Holds self.old }
+        requires room { Room self.old.count s.nodes 0 s }
+        requires here { toks self.old.text.now s.place ≡ sign d ∷ rest (toks self.old.text.now s.place) }
+        ensures pays { Begins self.old self.new s result }
+        ensures same { Same self.old self.new }
+    {
+        match d {
+            b'!' => Some(push(self.work, s, Frame::Prefixed(Prefix::Not), 1)),
+            b'-' => Some(push(self.work, s, Frame::Prefixed(Prefix::Negative), 1)),
+            b'(' => Some(push(self.work, s, Frame::Group, 1)),
+            b'$' => Some(push(self.work, s, Frame::Dollar, 1)),
+            _ => None,
+        }
+    }
+
+    // f( with its arguments, or f() with none.
+    fn begin_call(&mut self, s: Spot, x: Name) -> Turn
+        requires ready { Holds self.old }
+        requires room { Room self.old.count s.nodes 0 s }
+        requires here { CallHere self.old.text.now s.place x }
+        ensures pays { Begins self.old self.new s (Some result) }
+        ensures same { Same self.old self.new }
+    {
+        put_list(self.work, s.nodes, ListNode::Empty, true);
+        let t = Spot {
+            nodes: s.nodes + 1,
+            ..s
+        };
+        if self.is_sign(s.place + 2, b')') {
+            make(self.work, t, TermNode::Call(x, s.nodes), false, 3, TIGHTEST)
+        } else {
+            push(self.work, t, Frame::Arguments(x, s.nodes), 2)
+        }
+    }
+
+    // An operand that begins with a name: an item, a call or a variable.
+    fn begin_name(&mut self, s: Spot, x: Name) -> Turn
+        requires ready { Holds self.old }
+        requires room { Room self.old.count s.nodes 0 s }
+        requires here { NameHere self.old.text.now s.place x }
+        ensures pays { Begins self.old self.new s (Some result) }
+        ensures same { Same self.old self.new }
+    {
+        if self.is_sign(s.place + 1, b'[') {
+            push(self.work, s, Frame::Indexing(x), 2)
+        } else if self.is_sign(s.place + 1, b'(') {
+            self.begin_call(s, x)
+        } else {
+            make(self.work, s, TermNode::Variable(x), true, 1, TIGHTEST)
+        }
+    }
+
+    // swap( with its pattern and the comma behind it.
+    fn begin_swap(&mut self, s: Spot) -> Option<Turn>
+        requires ready { Holds self.old }
+        requires room { Room self.old.count s.nodes 0 s }
+        requires here { toks self.old.text.now s.place ≡ word w_swap ∷ rest (toks self.old.text.now s.place) }
+        requires opens { sees 40 (toks self.old.text.now (s.place + 1)) ≡ true }
+        ensures pays { Begins self.old self.new s result }
+        ensures same { Same self.old self.new }
+    {
+        let q = pattern_at(self.text, self.work, self.count, s.place + 2)?;
+        if self.is_sign(s.place + 3, b',') {
+            Some(push(self.work, s, Frame::SwapFirst(q), 4))
+        } else {
+            None
+        }
+    }
+
+    // An operand that begins with a function that is built in; other reserved words begin none.
+    fn begin_word(&mut self, s: Spot, k: Keyword) -> Option<Turn>
+        requires ready { Holds self.old }
+        requires room { Room self.old.count s.nodes 0 s }
+        requires here { toks self.old.text.now s.place ≡ word (spelled k) ∷ rest (toks self.old.text.now s.place) }
+        ensures pays { Begins self.old self.new s result }
+        ensures same { Same self.old self.new }
+    {
+        if !self.is_sign(s.place + 1, b'(') {
+            return None;
+        }
+        match k {
+            Keyword::Length => Some(push(self.work, s, Frame::Measuring(Prefix::Length), 2)),
+            Keyword::Upper => Some(push(self.work, s, Frame::Measuring(Prefix::Upper), 2)),
+            Keyword::Index => Some(push(self.work, s, Frame::IndexFirst, 2)),
+            Keyword::Substr => Some(push(self.work, s, Frame::PartFirst, 2)),
+            Keyword::Split => Some(push(self.work, s, Frame::SplitFirst, 2)),
+            Keyword::Swap => self.begin_swap(s),
+            _ => None,
+        }
+    }
+
+    // Begins to read an operand.
+    fn begin(&mut self, s: Spot) -> Option<Turn>
+        requires ready { Holds self.old }
+        requires room { Room self.old.count s.nodes 0 s }
+        ensures pays { Begins self.old self.new s result }
+        ensures same { Same self.old self.new }
+    {
+        match peek(self.work, self.count, s.place)? {
+            Token::Number(n) => Some(make(self.work, s, TermNode::Number(n), true, 1, TIGHTEST)),
+            Token::Quoted(start) => Some(make(
+                self.work,
+                s,
+                TermNode::Text(start),
+                true,
+                1,
+                TIGHTEST,
+            )),
+            Token::Name(x) => Some(self.begin_name(s, x)),
+            Token::Keyword(k) => self.begin_word(s, k),
+            Token::Sign(d) => self.begin_sign(s, d),
+            Token::Bad => None,
+        }
+    }
+
+    // Behind ~ or !~ with a pattern; a !~ is a ~ that is negated.
+    fn bind_like(&mut self, s: Spot, node: usize, negated: bool) -> Option<Turn>
+        requires ready { Holds self.old }
+        requires room { Room self.old.count s.nodes 1 s }
+        requires here { LikeSign (toks self.old.text.now s.place) negated }
+        ensures pays { (h : ℕ) (t : Token) → Binds self.old.text.now self.old.work.now s node h t 4 → Follows self.old self.new s node h result }
+        ensures same { Same self.old self.new }
+    {
+        let q = pattern_at(self.text, self.work, self.count, s.place + 1)?;
+        let like = TermNode::Like(node, q);
+        if !negated {
+            return Some(make(self.work, s, like, false, 2, 3));
+        }
+        put_term(self.work, s.nodes, like, false);
+        let t = Spot {
+            nodes: s.nodes + 1,
+            ..s
+        };
+        Some(make(
+            self.work,
+            t,
+            TermNode::Unary(Prefix::Not, s.nodes),
+            false,
+            2,
+            3,
+        ))
+    }
+
+    // Behind in with a table's name.
+    fn bind_in(&mut self, s: Spot, node: usize) -> Option<Turn>
+        requires ready { Holds self.old }
+        requires room { Room self.old.count s.nodes 1 s }
+        requires no_like { sees 126 (toks self.old.text.now s.place) ≡ false }
+        requires no_unlike { sees 7 (toks self.old.text.now s.place) ≡ false }
+        ensures pays { (h : ℕ) (t : Token) → Binds self.old.text.now self.old.work.now s node h t 4 → Follows self.old self.new s node h result }
+        ensures same { Same self.old self.new }
+    {
+        let x = name_at(self.work, self.count, s.place + 1)?;
+        Some(make(self.work, s, TermNode::There(node, x), false, 2, 3))
+    }
+
+    // Behind an operand, to which a token binds at a level.
+    fn bind(&mut self, s: Spot, node: usize, token: Token, level: u64) -> Option<Turn>
+        requires ready { Holds self.old }
+        requires room { Room self.old.count s.nodes 1 s }
+        ensures pays { (h : ℕ) → Binds self.old.text.now self.old.work.now s node h token level → Follows self.old self.new s node h result }
+        ensures same { Same self.old self.new }
+    {
+        match level {
+            SETTING => Some(push(self.work, s, Frame::Assigning(node), 1)),
+            MATCHING => {
+                if self.is_sign(s.place, b'~') {
+                    self.bind_like(s, node, false)
+                } else if self.is_sign(s.place, UNLIKE) {
+                    self.bind_like(s, node, true)
+                } else {
+                    self.bind_in(s, node)
+                }
+            }
+            JOINING => Some(push(self.work, s, Frame::Infix(level, Operator::Join, node), 0)),
+            _ => Some(push(self.work, s, Frame::Infix(level, operator(token), node), 1)),
+        }
+    }
+
+    // A node behind a closing sign; none of these is of the core.
+    fn close(&mut self, s: Spot, c: u8, node: TermNode) -> Option<Turn>
+        requires nodes { s.nodes < 25600 }
+        requires place { s.place ≤ 4096 }
+        ensures closes { (bs : List ℕ) → TokensIn bs self.old.work.now self.old.count → Closing self.old.work.now self.new.work.now s node false result (sees c (toks bs s.place)) }
+        ensures same { Same self.old self.new }
+    {
+        if self.is_sign(s.place, c) {
+            Some(make(self.work, s, node, false, 1, TIGHTEST))
+        } else {
+            None
+        }
+    }
+
+    // A frame behind a comma.
+    fn part(&mut self, s: Spot, frame: Frame) -> Option<Turn>
+        requires depth { s.depth ≤ 4096 }
+        requires place { s.place ≤ 4096 }
+        ensures parts { (bs : List ℕ) → TokensIn bs self.old.work.now self.old.count → Parting self.old.work.now self.new.work.now s frame result (sees 44 (toks bs s.place)) }
+        ensures same { Same self.old self.new }
+    {
+        if self.is_sign(s.place, b',') {
+            Some(push(self.work, s, frame, 1))
+        } else {
+            None
+        }
+    }
+
+    // Ends a bracket around an expression.
+    fn finish_group(&self, s: Spot, node: usize) -> Option<Turn>
+        requires ready { Holds self.now }
+        requires room { Room self.now.count s.nodes 1 s }
+        requires here { OnTop self.now.work.now s Group }
+        ensures { Finishes self.now self.now s node result }
+    {
+        if !self.is_sign(s.place, b')') {
+            return None;
+        }
+        let t = Spot {
             place: s.place + 1,
             depth: s.depth - 1,
-            nodes: s.nodes,
-        },
-        node,
-        TIGHTEST,
-    )
-}
+            ..s
+        };
+        Some(Turn::After(t, node, TIGHTEST))
+    }
 
-// Ends the first operand of split: the table's name, the pattern and the bracket follow.
-fn finish_split(text: &[u8], work: &mut [u64], count: usize, s: Spot, node: usize) -> Turn
-    requires { (Ready text.now work.old count) × ((Room count s.nodes 1 s) × (OnTop work.old s SplitFirst)) }
-    ensures { Pays text.now work.old work.new count s.nodes (effort count s + 3) (Ended text.now work.old s node) result }
-{
-    if !is_sign(work, count, s.place, b',') {
-        return Turn::Failed;
+    // Ends the first operand of split: the table's name, the pattern and the bracket follow.
+    fn finish_split(&mut self, s: Spot, node: usize) -> Option<Turn>
+        requires ready { Holds self.old }
+        requires room { Room self.old.count s.nodes 1 s }
+        requires here { OnTop self.old.work.now s SplitFirst }
+        ensures pays { Finishes self.old self.new s node result }
+        ensures same { Same self.old self.new }
+    {
+        if !self.is_sign(s.place, b',') {
+            return None;
+        }
+        let x = name_at(self.work, self.count, s.place + 1)?;
+        if !self.is_sign(s.place + 2, b',') {
+            return None;
+        }
+        let q = pattern_at(self.text, self.work, self.count, s.place + 3)?;
+        let t = Spot {
+            place: s.place + 4,
+            depth: s.depth - 1,
+            ..s
+        };
+        self.close(t, b')', TermNode::Split(node, x, q))
     }
-    let Some(x) = name_at(work, count, s.place + 1) else {
-        return Turn::Failed;
-    };
-    if !is_sign(work, count, s.place + 2, b',') {
-        return Turn::Failed;
-    }
-    let Some(q) = pattern_at(text, work, count, s.place + 3) else {
-        return Turn::Failed;
-    };
-    let t = Spot {
-        place: s.place + 4,
-        depth: s.depth - 1,
-        nodes: s.nodes,
-    };
-    close(work, count, t, b')', TermNode::Split(node, x, q), false)
-}
 
-// Ends an argument of a call: another one follows, or the bracket.
-fn finish_argument(
-    text: &[u8],
-    work: &mut [u64],
-    count: usize,
-    s: Spot,
-    node: usize,
-    x: Name,
-    list: usize,
-) -> Turn
-    requires { (Ready text.now work.old count) × ((Room count s.nodes 1 s) × (OnTop work.old s (Arguments x list))) }
-    ensures { Pays text.now work.old work.new count s.nodes (effort count s + 3) (Ended text.now work.old s node) result }
-{
-    let plain = both_plain(work, list, node);
-    put_list(work, s.nodes, ListNode::More(list, node), plain);
-    let t = Spot {
-        place: s.place,
-        depth: s.depth - 1,
-        nodes: s.nodes + 1,
-    };
-    if is_sign(work, count, s.place, b',') {
-        push(work, t, Frame::Arguments(x, s.nodes), 1)
-    } else {
-        close(work, count, t, b')', TermNode::Call(x, s.nodes), false)
+    // Ends an argument of a call: another one follows, or the bracket.
+    fn finish_argument(&mut self, s: Spot, node: usize, x: Name, list: usize) -> Option<Turn>
+        requires ready { Holds self.old }
+        requires room { Room self.old.count s.nodes 1 s }
+        requires here { OnTop self.old.work.now s (Arguments x list) }
+        ensures pays { Finishes self.old self.new s node result }
+        ensures same { Same self.old self.new }
+    {
+        let plain = both_plain(self.work, list, node);
+        put_list(self.work, s.nodes, ListNode::More(list, node), plain);
+        let t = Spot {
+            depth: s.depth - 1,
+            nodes: s.nodes + 1,
+            ..s
+        };
+        if self.is_sign(s.place, b',') {
+            Some(push(self.work, t, Frame::Arguments(x, s.nodes), 1))
+        } else {
+            self.close(t, b')', TermNode::Call(x, s.nodes))
+        }
     }
-}
 
-// Ends the last operand of swap, which has to be a place.
-fn finish_swap(
-    text: &[u8],
-    work: &mut [u64],
-    count: usize,
-    s: Spot,
-    node: usize,
-    q: usize,
-    by: usize,
-) -> Turn
-    requires { (Ready text.now work.old count) × ((Room count s.nodes 1 s) × (OnTop work.old s (SwapSecond q by))) }
-    ensures { Pays text.now work.old work.new count s.nodes (effort count s + 3) (Ended text.now work.old s node) result }
-{
-    if !is_place(work, node) {
-        return Turn::Failed;
+    // Ends the last operand of swap, which has to be a place.
+    fn finish_swap(&mut self, s: Spot, node: usize, q: usize, by: usize) -> Option<Turn>
+        requires ready { Holds self.old }
+        requires room { Room self.old.count s.nodes 1 s }
+        requires here { OnTop self.old.work.now s (SwapSecond q by) }
+        ensures pays { Finishes self.old self.new s node result }
+        ensures same { Same self.old self.new }
+    {
+        if !is_place(self.work, node) {
+            return None;
+        }
+        let t = Spot {
+            depth: s.depth - 1,
+            ..s
+        };
+        self.close(t, b')', TermNode::Swap(q, by, node))
     }
-    let t = Spot {
-        place: s.place,
-        depth: s.depth - 1,
-        nodes: s.nodes,
-    };
-    close(work, count, t, b')', TermNode::Swap(q, by, node), false)
-}
 
-// Ends what was begun last, with its operand.
-fn finish(text: &[u8], work: &mut [u64], count: usize, s: Spot, node: usize) -> Turn
-    requires { (Ready text.now work.old count) × (Room count s.nodes 1 s) }
-    ensures { Pays text.now work.old work.new count s.nodes (effort count s + 3) (Ended text.now work.old s node) result }
-{
-    if s.depth == 0 {
-        return Turn::Done(s, node);
-    }
-    let t = Spot {
-        place: s.place,
-        depth: s.depth - 1,
-        nodes: s.nodes,
-    };
-    match frame_at(work, t.depth) {
-        Frame::Infix(level, o, left) => {
-            let plain = infix_plain(work, o, left, node);
-            make(
-                work,
-                t,
-                TermNode::Binary(o, left, node),
-                plain,
-                0,
-                high_of(level),
-            )
-        }
-        Frame::Prefixed(p) => {
-            let plain = prefix_plain(work, p, node);
-            make(work, t, TermNode::Unary(p, node), plain, 0, TIGHTEST)
-        }
-        Frame::Dollar => {
-            let plain = is_plain(work, node);
-            make(work, t, TermNode::Field(node), plain, 0, TIGHTEST)
-        }
-        Frame::Assigning(left) => {
-            let plain = both_plain(work, left, node);
-            make(work, t, TermNode::Assign(left, node), plain, 0, 0)
-        }
-        Frame::Group => finish_group(text, work, count, s, node),
-        Frame::Indexing(x) => close(work, count, t, b']', TermNode::Item(x, node), false),
-        Frame::Measuring(p) => close(work, count, t, b')', TermNode::Unary(p, node), false),
-        Frame::IndexFirst => part(work, count, t, Frame::IndexSecond(node)),
-        Frame::IndexSecond(a) => close(
-            work,
-            count,
+    // Ends the right side of an operator.
+    fn finish_infix(&mut self, s: Spot, node: usize, level: u64, o: Operator, left: usize) -> Turn
+        requires ready { Holds self.old }
+        requires room { Room self.old.count s.nodes 1 s }
+        requires here { OnTop self.old.work.now s (Infix level o left) }
+        ensures pays { Finishes self.old self.new s node (Some result) }
+        ensures same { Same self.old self.new }
+    {
+        let plain = infix_plain(self.work, o, left, node);
+        let t = Spot {
+            depth: s.depth - 1,
+            ..s
+        };
+        make(
+            self.work,
             t,
-            b')',
-            TermNode::Binary(Operator::Index, a, node),
-            false,
-        ),
-        Frame::PartFirst => part(work, count, t, Frame::PartSecond(node)),
-        Frame::PartSecond(a) => part(work, count, t, Frame::PartThird(a, node)),
-        Frame::PartThird(a, b) => close(work, count, t, b')', TermNode::Part(a, b, node), false),
-        Frame::SplitFirst => finish_split(text, work, count, s, node),
-        Frame::SwapFirst(q) => part(work, count, t, Frame::SwapSecond(q, node)),
-        Frame::SwapSecond(q, by) => finish_swap(text, work, count, s, node, q, by),
-        Frame::Arguments(x, list) => finish_argument(text, work, count, s, node, x, list),
+            TermNode::Binary(o, left, node),
+            plain,
+            0,
+            high_of(level),
+        )
     }
-}
 
-// Goes on behind an operand.
-fn go_on(text: &[u8], work: &mut [u64], count: usize, s: Spot, node: usize, high: u64) -> Turn
-    requires { (Ready text.now work.old count) × (Room count s.nodes 1 s) }
-    ensures { Pays text.now work.old work.new count s.nodes (effort count s + 3) (Behind text.now work.old s node high) result }
-{
-    let token = peek(work, count, s.place);
-    let here = level(token, is_place(work, node));
-    if binds(work, s.depth, here, high) {
-        bind(text, work, count, s, node, high, token, here)
-    } else {
-        finish(text, work, count, s, node)
+    // Ends what was begun last, with its operand.
+    fn finish(&mut self, s: Spot, node: usize) -> Option<Turn>
+        requires ready { Holds self.old }
+        requires room { Room self.old.count s.nodes 1 s }
+        ensures pays { Finishes self.old self.new s node result }
+        ensures same { Same self.old self.new }
+    {
+        if s.depth == 0 {
+            return Some(Turn::Done(s, node));
+        }
+        let t = Spot {
+            depth: s.depth - 1,
+            ..s
+        };
+        match frame_at(self.work, t.depth) {
+            Frame::Infix(level, o, left) => Some(self.finish_infix(s, node, level, o, left)),
+            Frame::Prefixed(p) => {
+                let plain = prefix_plain(self.work, p, node);
+                Some(make(self.work, t, TermNode::Unary(p, node), plain, 0, TIGHTEST))
+            }
+            Frame::Dollar => {
+                let plain = is_plain(self.work, node);
+                Some(make(self.work, t, TermNode::Field(node), plain, 0, TIGHTEST))
+            }
+            Frame::Assigning(left) => {
+                let plain = both_plain(self.work, left, node);
+                Some(make(self.work, t, TermNode::Assign(left, node), plain, 0, 0))
+            }
+            Frame::Group => self.finish_group(s, node),
+            Frame::Indexing(x) => self.close(t, b']', TermNode::Item(x, node)),
+            Frame::Measuring(p) => self.close(t, b')', TermNode::Unary(p, node)),
+            Frame::IndexFirst => self.part(t, Frame::IndexSecond(node)),
+            Frame::IndexSecond(a) => self.close(
+                t,
+                b')',
+                TermNode::Binary(Operator::Index, a, node),
+            ),
+            Frame::PartFirst => self.part(t, Frame::PartSecond(node)),
+            Frame::PartSecond(a) => self.part(t, Frame::PartThird(a, node)),
+            Frame::PartThird(a, b) => self.close(t, b')', TermNode::Part(a, b, node)),
+            Frame::SplitFirst => self.finish_split(s, node),
+            Frame::SwapFirst(q) => self.part(t, Frame::SwapSecond(q, node)),
+            Frame::SwapSecond(q, by) => self.finish_swap(s, node, q, by),
+            Frame::Arguments(x, list) => self.finish_argument(s, node, x, list),
+        }
+    }
+
+    // Goes on behind an operand.
+    fn go_on(&mut self, s: Spot, node: usize, high: u64) -> Option<Turn>
+        requires ready { Holds self.old }
+        requires room { Room self.old.count s.nodes 1 s }
+        ensures pays { Follows self.old self.new s node high result }
+        ensures same { Same self.old self.new }
+    {
+        let Some(token) = peek(self.work, self.count, s.place) else {
+            return self.finish(s, node);
+        };
+        let level = level(token, is_place(self.work, node));
+        if binds(self.work, s.depth, level, high) {
+            self.bind(s, node, token, level)
+        } else {
+            self.finish(s, node)
+        }
     }
 }
 
@@ -550,15 +571,17 @@ pub struct Parsed {
 // Reads an expression from a place on, unless there is none.
 pub fn read_term(
     text: &[u8],
-    work: &mut [u64],
+    work: &mut Work,
     count: usize,
     place: usize,
     nodes: usize,
 ) -> Option<Parsed>
-    requires { (Ready text.now work.old count) × (Start count place nodes) }
+    requires ready { Ready text.now work.old count }
+    requires start { Start count place nodes }
     ensures read { TermRead text.now work.old work.new count place nodes result }
     ensures paid { Paid place nodes result }
 {
+    let mut reader = Reader { text, work, count };
     let mut turn = Turn::Operand(Spot {
         place,
         depth: 0,
@@ -566,14 +589,13 @@ pub fn read_term(
     });
     loop {
         match turn {
-            Turn::Operand(s) => turn = begin(text, work, count, s),
-            Turn::After(s, node, high) => turn = go_on(text, work, count, s, node, high),
+            Turn::Operand(s) => turn = reader.begin(s)?,
+            Turn::After(s, node, high) => turn = reader.go_on(s, node, high)?,
             Turn::Done(s, node) => return Some(Parsed {
                 node,
                 place: s.place,
                 nodes: s.nodes,
             }),
-            Turn::Failed => return None,
         }
     }
 }

@@ -3,8 +3,8 @@ ghost use Rattle.std.specs.Prelude.{◌≡◌, ◌+◌, ◌≤◌, length};
 ghost use Rattle.lexer.specs.Memory.{cell};
 ghost use Rattle.parser.specs.Frames.{frame_of, Pushed};
 
-use crate::nodes::{Operator, Prefix, operator_at, operator_number, prefix_at, prefix_number};
-use lexer::cells::{BLANK, Cell, load, store};
+use crate::nodes::{Operator, Prefix, name};
+use lexer::cells::{Cell, Work, load, store};
 use lexer::tokens::Name;
 
 // The first cell of the stack.
@@ -50,7 +50,7 @@ pub struct Spot {
     pub nodes: usize,
 }
 
-// What is next in reading an expression.
+// What is next in reading an expression, if there is one.
 #[derive(Clone, Copy)]
 pub enum Turn {
     // To read an operand.
@@ -59,8 +59,6 @@ pub enum Turn {
     After(Spot, usize, u64),
     // The expression is there, by its node.
     Done(Spot, usize),
-    // There is none.
-    Failed,
 }
 
 // Kinds of cells that hold frames.
@@ -96,133 +94,70 @@ const SWAP_SECOND: u64 = 114;
 
 const ARGUMENTS: u64 = 115;
 
-fn frame_cell(frame: Frame) -> Cell
-    ensures { frame_of result ≡ frame }
-{
-    match frame {
-        Frame::Infix(a, b, c) => Cell {
-            kind: INFIX,
-            first: a,
-            second: operator_number(b),
-            third: c as u64,
-            ..BLANK
-        },
-        Frame::Prefixed(a) => Cell {
-            kind: PREFIXED,
-            first: prefix_number(a),
-            ..BLANK
-        },
-        Frame::Dollar => Cell {
-            kind: DOLLAR,
-            ..BLANK
-        },
-        Frame::Assigning(a) => Cell {
-            kind: ASSIGNING,
-            first: a as u64,
-            ..BLANK
-        },
-        Frame::Group => Cell {
-            kind: GROUP,
-            ..BLANK
-        },
-        Frame::Indexing(a) => Cell {
-            kind: INDEXING,
-            first: a.start as u64,
-            second: a.len as u64,
-            ..BLANK
-        },
-        Frame::Measuring(a) => Cell {
-            kind: MEASURING,
-            first: prefix_number(a),
-            ..BLANK
-        },
-        Frame::IndexFirst => Cell {
-            kind: INDEX_FIRST,
-            ..BLANK
-        },
-        Frame::IndexSecond(a) => Cell {
-            kind: INDEX_SECOND,
-            first: a as u64,
-            ..BLANK
-        },
-        Frame::PartFirst => Cell {
-            kind: PART_FIRST,
-            ..BLANK
-        },
-        Frame::PartSecond(a) => Cell {
-            kind: PART_SECOND,
-            first: a as u64,
-            ..BLANK
-        },
-        Frame::PartThird(a, b) => Cell {
-            kind: PART_THIRD,
-            first: a as u64,
-            second: b as u64,
-            ..BLANK
-        },
-        Frame::SplitFirst => Cell {
-            kind: SPLIT_FIRST,
-            ..BLANK
-        },
-        Frame::SwapFirst(a) => Cell {
-            kind: SWAP_FIRST,
-            first: a as u64,
-            ..BLANK
-        },
-        Frame::SwapSecond(a, b) => Cell {
-            kind: SWAP_SECOND,
-            first: a as u64,
-            second: b as u64,
-            ..BLANK
-        },
-        Frame::Arguments(a, b) => Cell {
-            kind: ARGUMENTS,
-            first: a.start as u64,
-            second: a.len as u64,
-            third: b as u64,
-            ..BLANK
-        },
+impl From<Frame> for Cell {
+    ghost from_gives = { λ f c. frame_of c ≡ f };
+
+    #[tactic(auto, unfolding(crate::specs::Frames::frame_of))]
+    fn from(frame: Frame) -> Cell {
+        match frame {
+            Frame::Infix(a, b, c) => Cell::new(INFIX, [a, u64::from(b), c as u64, 0]),
+            Frame::Prefixed(a) => Cell::new(PREFIXED, [u64::from(a), 0, 0, 0]),
+            Frame::Dollar => Cell::new(DOLLAR, [0; 4]),
+            Frame::Assigning(a) => Cell::new(ASSIGNING, [a as u64, 0, 0, 0]),
+            Frame::Group => Cell::new(GROUP, [0; 4]),
+            Frame::Indexing(a) => Cell::new(INDEXING, [a.start as u64, a.len as u64, 0, 0]),
+            Frame::Measuring(a) => Cell::new(MEASURING, [u64::from(a), 0, 0, 0]),
+            Frame::IndexFirst => Cell::new(INDEX_FIRST, [0; 4]),
+            Frame::IndexSecond(a) => Cell::new(INDEX_SECOND, [a as u64, 0, 0, 0]),
+            Frame::PartFirst => Cell::new(PART_FIRST, [0; 4]),
+            Frame::PartSecond(a) => Cell::new(PART_SECOND, [a as u64, 0, 0, 0]),
+            Frame::PartThird(a, b) => Cell::new(PART_THIRD, [a as u64, b as u64, 0, 0]),
+            Frame::SplitFirst => Cell::new(SPLIT_FIRST, [0; 4]),
+            Frame::SwapFirst(a) => Cell::new(SWAP_FIRST, [a as u64, 0, 0, 0]),
+            Frame::SwapSecond(a, b) => Cell::new(SWAP_SECOND, [a as u64, b as u64, 0, 0]),
+            Frame::Arguments(a, b) => Cell::new(
+                ARGUMENTS,
+                [a.start as u64, a.len as u64, b as u64, 0],
+            ),
+        }
     }
 }
 
-fn frame_in(c: Cell) -> Frame
-    ensures { result ≡ frame_of c }
-{
-    match c.kind {
-        INFIX => Frame::Infix(c.first, operator_at(c.second), c.third as usize),
-        PREFIXED => Frame::Prefixed(prefix_at(c.first)),
-        DOLLAR => Frame::Dollar,
-        ASSIGNING => Frame::Assigning(c.first as usize),
-        INDEXING => Frame::Indexing(Name {
-            start: c.first as usize,
-            len: c.second as usize,
-        }),
-        MEASURING => Frame::Measuring(prefix_at(c.first)),
-        INDEX_FIRST => Frame::IndexFirst,
-        INDEX_SECOND => Frame::IndexSecond(c.first as usize),
-        PART_FIRST => Frame::PartFirst,
-        PART_SECOND => Frame::PartSecond(c.first as usize),
-        PART_THIRD => Frame::PartThird(c.first as usize, c.second as usize),
-        SPLIT_FIRST => Frame::SplitFirst,
-        SWAP_FIRST => Frame::SwapFirst(c.first as usize),
-        SWAP_SECOND => Frame::SwapSecond(c.first as usize, c.second as usize),
-        ARGUMENTS => Frame::Arguments(
-            Name {
-                start: c.first as usize,
-                len: c.second as usize,
-            },
-            c.third as usize,
-        ),
-        _ => Frame::Group,
+impl From<Cell> for Frame {
+    ghost from_gives = { λ c f. f ≡ frame_of c };
+
+    #[tactic(auto, unfolding(crate::specs::Frames::frame_of))]
+    fn from(c: Cell) -> Frame {
+        match c.kind {
+            INFIX => Frame::Infix(c.first, Operator::from(c.second), c.third as usize),
+            PREFIXED => Frame::Prefixed(Prefix::from(c.first)),
+            DOLLAR => Frame::Dollar,
+            ASSIGNING => Frame::Assigning(c.first as usize),
+            INDEXING => Frame::Indexing(name(c.first, c.second)),
+            MEASURING => Frame::Measuring(Prefix::from(c.first)),
+            INDEX_FIRST => Frame::IndexFirst,
+            INDEX_SECOND => Frame::IndexSecond(c.first as usize),
+            PART_FIRST => Frame::PartFirst,
+            PART_SECOND => Frame::PartSecond(c.first as usize),
+            PART_THIRD => Frame::PartThird(c.first as usize, c.second as usize),
+            SPLIT_FIRST => Frame::SplitFirst,
+            SWAP_FIRST => Frame::SwapFirst(c.first as usize),
+            SWAP_SECOND => Frame::SwapSecond(c.first as usize, c.second as usize),
+            ARGUMENTS => Frame::Arguments(name(c.first, c.second), c.third as usize),
+            _ => Frame::Group,
+        }
     }
 }
 
 // Pushes a frame and goes on to an operand, behind so many tokens.
-pub fn push(work: &mut [u64], s: Spot, frame: Frame, eaten: usize) -> Turn
-    requires { (length work.old ≡ 179200) × ((s.depth ≤ 4096) × ((s.place ≤ 4096) × (eaten ≤ 4))) }
-    ensures { Pushed work.old work.new s frame eaten result }
+pub fn push(work: &mut Work, s: Spot, frame: Frame, eaten: usize) -> Turn
+    requires depth { s.depth ≤ 4096 }
+    requires place { s.place ≤ 4096 }
+    requires eaten { eaten ≤ 4 }
+    ensures pushed { Pushed work.old work.new s frame eaten result }
+    ensures long { length work.new ≡ 179200 }
 {
-    store(work, FRAMES + s.depth, frame_cell(frame));
+    store(work, FRAMES + s.depth, Cell::from(frame));
     Turn::Operand(Spot {
         place: s.place + eaten,
         depth: s.depth + 1,
@@ -231,9 +166,9 @@ pub fn push(work: &mut [u64], s: Spot, frame: Frame, eaten: usize) -> Turn
 }
 
 // The frame at a depth.
-pub fn frame_at(work: &[u64], depth: usize) -> Frame
-    requires { (length work.now ≡ 179200) × (depth ≤ 4096) }
+pub fn frame_at(work: &Work, depth: usize) -> Frame
+    requires { depth ≤ 4096 }
     ensures { result ≡ frame_of (cell work.now (21120 + depth)) }
 {
-    frame_in(load(work, FRAMES + depth))
+    Frame::from(load(work, FRAMES + depth))
 }

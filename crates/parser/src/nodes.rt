@@ -1,9 +1,9 @@
 // Expressions as nodes, a cell each. A node stands behind its parts and is never changed, so what is represented stays so.
 ghost use Rattle.std.specs.Prelude.{◌≡◌, ◌<◌, length, ◌==◌};
-ghost use Rattle.lexer.specs.Memory.{cell};
+ghost use Rattle.lexer.specs.Memory.{cell, Stored};
 ghost use Rattle.parser.specs.Nodes.{operator_of, prefix_of, term_of, list_of, bit, Made, Listed, a_place};
 
-use lexer::cells::{BLANK, Cell, load, store};
+use lexer::cells::{Cell, Work, load, store};
 use lexer::tokens::Name;
 
 // What stands before an operand, or is built in with one.
@@ -90,48 +90,68 @@ pub enum ListNode {
     More(usize, usize),
 }
 
-pub fn operator_number(o: Operator) -> u64
-    ensures { operator_of result ≡ o }
-{
-    o as u64
-}
+impl From<Operator> for u64 {
+    ghost from_gives = { λ o n. operator_of n ≡ o };
 
-pub fn operator_at(n: u64) -> Operator
-    ensures { result ≡ operator_of n }
-{
-    match n {
-        0 => Operator::Or,
-        1 => Operator::And,
-        2 => Operator::Equal,
-        3 => Operator::Unequal,
-        4 => Operator::Less,
-        5 => Operator::AtMost,
-        6 => Operator::Plus,
-        7 => Operator::Minus,
-        8 => Operator::Times,
-        9 => Operator::Over,
-        10 => Operator::Rest,
-        11 => Operator::Join,
-        12 => Operator::Index,
-        13 => Operator::More,
-        _ => Operator::AtLeast,
+    fn from(o: Operator) -> u64 {
+        o as u64
     }
 }
 
-pub fn prefix_number(p: Prefix) -> u64
-    ensures { prefix_of result ≡ p }
-{
-    p as u64
+// Any other number is the last one. A table of all, which a keyword is read by, would be as long as the arms and serve nothing else.
+impl From<u64> for Operator {
+    ghost from_gives = { λ n o. o ≡ operator_of n };
+
+    fn from(n: u64) -> Operator {
+        match n {
+            0 => Operator::Or,
+            1 => Operator::And,
+            2 => Operator::Equal,
+            3 => Operator::Unequal,
+            4 => Operator::Less,
+            5 => Operator::AtMost,
+            6 => Operator::Plus,
+            7 => Operator::Minus,
+            8 => Operator::Times,
+            9 => Operator::Over,
+            10 => Operator::Rest,
+            11 => Operator::Join,
+            12 => Operator::Index,
+            13 => Operator::More,
+            _ => Operator::AtLeast,
+        }
+    }
 }
 
-pub fn prefix_at(n: u64) -> Prefix
-    ensures { result ≡ prefix_of n }
+impl From<Prefix> for u64 {
+    ghost from_gives = { λ p n. prefix_of n ≡ p };
+
+    fn from(p: Prefix) -> u64 {
+        p as u64
+    }
+}
+
+// Any other number is the last one.
+impl From<u64> for Prefix {
+    ghost from_gives = { λ n p. p ≡ prefix_of n };
+
+    fn from(n: u64) -> Prefix {
+        match n {
+            0 => Prefix::Not,
+            1 => Prefix::Negative,
+            2 => Prefix::Length,
+            _ => Prefix::Upper,
+        }
+    }
+}
+
+// A name that stands in two words of a cell.
+pub(crate) fn name(start: u64, len: u64) -> Name
+    ensures { result ≡ record { start = start; len = len } }
 {
-    match n {
-        0 => Prefix::Not,
-        1 => Prefix::Negative,
-        2 => Prefix::Length,
-        _ => Prefix::Upper,
+    Name {
+        start: start as usize,
+        len: len as usize,
     }
 }
 
@@ -168,241 +188,145 @@ const EMPTY: u64 = 30;
 
 const MORE: u64 = 31;
 
-// A node as a cell; the flag says whether all of it is of the core.
-fn term_cell(node: TermNode) -> Cell
-    ensures { term_of result ≡ node }
-{
-    match node {
-        TermNode::Number(a) => Cell {
-            kind: NUMBER,
-            first: a,
-            ..BLANK
-        },
-        TermNode::Text(a) => Cell {
-            kind: TEXT,
-            first: a as u64,
-            ..BLANK
-        },
-        TermNode::Variable(a) => Cell {
-            kind: VARIABLE,
-            first: a.start as u64,
-            second: a.len as u64,
-            ..BLANK
-        },
-        TermNode::Item(a, b) => Cell {
-            kind: ITEM,
-            first: a.start as u64,
-            second: a.len as u64,
-            third: b as u64,
-            ..BLANK
-        },
-        TermNode::Field(a) => Cell {
-            kind: FIELD,
-            first: a as u64,
-            ..BLANK
-        },
-        TermNode::Unary(a, b) => Cell {
-            kind: UNARY,
-            first: prefix_number(a),
-            second: b as u64,
-            ..BLANK
-        },
-        TermNode::Binary(a, b, c) => Cell {
-            kind: BINARY,
-            first: operator_number(a),
-            second: b as u64,
-            third: c as u64,
-            ..BLANK
-        },
-        TermNode::Like(a, b) => Cell {
-            kind: LIKE,
-            first: a as u64,
-            second: b as u64,
-            ..BLANK
-        },
-        TermNode::There(a, b) => Cell {
-            kind: THERE,
-            first: a as u64,
-            second: b.start as u64,
-            third: b.len as u64,
-            ..BLANK
-        },
-        TermNode::Assign(a, b) => Cell {
-            kind: ASSIGN,
-            first: a as u64,
-            second: b as u64,
-            ..BLANK
-        },
-        TermNode::Call(a, b) => Cell {
-            kind: CALL,
-            first: a.start as u64,
-            second: a.len as u64,
-            third: b as u64,
-            ..BLANK
-        },
-        TermNode::Part(a, b, c) => Cell {
-            kind: PART,
-            first: a as u64,
-            second: b as u64,
-            third: c as u64,
-            ..BLANK
-        },
-        TermNode::Split(a, b, c) => Cell {
-            kind: SPLIT,
-            first: a as u64,
-            second: b.start as u64,
-            third: b.len as u64,
-            fourth: c as u64,
-            ..BLANK
-        },
-        TermNode::Swap(a, b, c) => Cell {
-            kind: SWAP,
-            first: a as u64,
-            second: b as u64,
-            third: c as u64,
-            ..BLANK
-        },
+impl From<TermNode> for Cell {
+    ghost from_gives = { λ x c. term_of c ≡ x };
+
+    #[tactic(auto, unfolding(crate::specs::Nodes::term_of))]
+    fn from(node: TermNode) -> Cell {
+        match node {
+            TermNode::Number(a) => Cell::new(NUMBER, [a, 0, 0, 0]),
+            TermNode::Text(a) => Cell::new(TEXT, [a as u64, 0, 0, 0]),
+            TermNode::Variable(a) => Cell::new(VARIABLE, [a.start as u64, a.len as u64, 0, 0]),
+            TermNode::Item(a, b) => Cell::new(ITEM, [a.start as u64, a.len as u64, b as u64, 0]),
+            TermNode::Field(a) => Cell::new(FIELD, [a as u64, 0, 0, 0]),
+            TermNode::Unary(a, b) => Cell::new(UNARY, [u64::from(a), b as u64, 0, 0]),
+            TermNode::Binary(a, b, c) => Cell::new(BINARY, [u64::from(a), b as u64, c as u64, 0]),
+            TermNode::Like(a, b) => Cell::new(LIKE, [a as u64, b as u64, 0, 0]),
+            TermNode::There(a, b) => Cell::new(THERE, [a as u64, b.start as u64, b.len as u64, 0]),
+            TermNode::Assign(a, b) => Cell::new(ASSIGN, [a as u64, b as u64, 0, 0]),
+            TermNode::Call(a, b) => Cell::new(CALL, [a.start as u64, a.len as u64, b as u64, 0]),
+            TermNode::Part(a, b, c) => Cell::new(PART, [a as u64, b as u64, c as u64, 0]),
+            TermNode::Split(a, b, c) => Cell::new(
+                SPLIT,
+                [a as u64, b.start as u64, b.len as u64, c as u64],
+            ),
+            TermNode::Swap(a, b, c) => Cell::new(SWAP, [a as u64, b as u64, c as u64, 0]),
+        }
     }
 }
 
-// The node in a cell.
-pub fn term_in(c: Cell) -> TermNode
-    ensures { result ≡ term_of c }
-{
-    match c.kind {
-        TEXT => TermNode::Text(c.first as usize),
-        VARIABLE => TermNode::Variable(Name {
-            start: c.first as usize,
-            len: c.second as usize,
-        }),
-        ITEM => TermNode::Item(
-            Name {
-                start: c.first as usize,
-                len: c.second as usize,
-            },
-            c.third as usize,
-        ),
-        FIELD => TermNode::Field(c.first as usize),
-        UNARY => TermNode::Unary(prefix_at(c.first), c.second as usize),
-        BINARY => TermNode::Binary(operator_at(c.first), c.second as usize, c.third as usize),
-        LIKE => TermNode::Like(c.first as usize, c.second as usize),
-        THERE => TermNode::There(
-            c.first as usize,
-            Name {
-                start: c.second as usize,
-                len: c.third as usize,
-            },
-        ),
-        ASSIGN => TermNode::Assign(c.first as usize, c.second as usize),
-        CALL => TermNode::Call(
-            Name {
-                start: c.first as usize,
-                len: c.second as usize,
-            },
-            c.third as usize,
-        ),
-        PART => TermNode::Part(c.first as usize, c.second as usize, c.third as usize),
-        SPLIT => TermNode::Split(
-            c.first as usize,
-            Name {
-                start: c.second as usize,
-                len: c.third as usize,
-            },
-            c.fourth as usize,
-        ),
-        SWAP => TermNode::Swap(c.first as usize, c.second as usize, c.third as usize),
-        _ => TermNode::Number(c.first),
+impl From<Cell> for TermNode {
+    ghost from_gives = { λ c x. x ≡ term_of c };
+
+    #[tactic(auto, unfolding(crate::specs::Nodes::term_of))]
+    fn from(c: Cell) -> TermNode {
+        match c.kind {
+            TEXT => TermNode::Text(c.first as usize),
+            VARIABLE => TermNode::Variable(name(c.first, c.second)),
+            ITEM => TermNode::Item(name(c.first, c.second), c.third as usize),
+            FIELD => TermNode::Field(c.first as usize),
+            UNARY => TermNode::Unary(Prefix::from(c.first), c.second as usize),
+            BINARY => TermNode::Binary(
+                Operator::from(c.first),
+                c.second as usize,
+                c.third as usize,
+            ),
+            LIKE => TermNode::Like(c.first as usize, c.second as usize),
+            THERE => TermNode::There(c.first as usize, name(c.second, c.third)),
+            ASSIGN => TermNode::Assign(c.first as usize, c.second as usize),
+            CALL => TermNode::Call(name(c.first, c.second), c.third as usize),
+            PART => TermNode::Part(c.first as usize, c.second as usize, c.third as usize),
+            SPLIT => TermNode::Split(c.first as usize, name(c.second, c.third), c.fourth as usize),
+            SWAP => TermNode::Swap(c.first as usize, c.second as usize, c.third as usize),
+            _ => TermNode::Number(c.first),
+        }
     }
 }
 
-// A truth as a number.
-pub fn flag_of(plain: bool) -> u64
-    ensures { result ≡ bit plain }
-{
-    if plain { 1 } else { 0 }
+impl From<ListNode> for Cell {
+    ghost from_gives = { λ x c. list_of c ≡ x };
+
+    #[tactic(auto, unfolding(crate::specs::Nodes::list_of))]
+    fn from(node: ListNode) -> Cell {
+        match node {
+            ListNode::Empty => Cell::new(EMPTY, [0; 4]),
+            ListNode::More(before, last) => Cell::new(MORE, [before as u64, last as u64, 0, 0]),
+        }
+    }
 }
 
-// Writes a node of an expression; the flag says whether all of it is of the core.
-pub fn put_term(work: &mut [u64], i: usize, node: TermNode, plain: bool)
-    requires { (length work.old ≡ 179200) × (i < 25600) }
-    ensures { Made work.old work.new i node plain }
+impl From<Cell> for ListNode {
+    ghost from_gives = { λ c x. x ≡ list_of c };
+
+    #[tactic(auto, unfolding(crate::specs::Nodes::list_of))]
+    fn from(c: Cell) -> ListNode {
+        match c.kind {
+            MORE => ListNode::More(c.first as usize, c.second as usize),
+            _ => ListNode::Empty,
+        }
+    }
+}
+
+// Writes a cell with its flag, which says whether all of what it holds is of the core.
+fn put(work: &mut Work, i: usize, c: Cell, plain: bool)
+    requires { i < 25600 }
+    ensures { Stored work.old work.new i (record c { flag = bit plain }) }
 {
-    let cell = term_cell(node);
     store(
         work,
         i,
         Cell {
-            flag: flag_of(plain),
-            ..cell
+            flag: u64::from(plain),
+            ..c
         },
     );
 }
 
+// Writes a node of an expression; the flag says whether all of it is of the core.
+pub fn put_term(work: &mut Work, i: usize, node: TermNode, plain: bool)
+    requires { i < 25600 }
+    ensures made { Made work.old work.new i node plain }
+    ensures long { length work.new ≡ 179200 }
+{
+    put(work, i, Cell::from(node), plain);
+}
+
 // A node of an expression.
-pub fn term(work: &[u64], i: usize) -> TermNode
-    requires { length work.now ≡ 179200 }
+pub fn term(work: &Work, i: usize) -> TermNode
     ensures { result ≡ term_of (cell work.now i) }
 {
-    term_in(load(work, i))
+    TermNode::from(load(work, i))
 }
 
 // Whether a node and all of its parts are of the core.
-pub fn is_plain(work: &[u64], i: usize) -> bool
-    requires { length work.now ≡ 179200 }
+pub fn is_plain(work: &Work, i: usize) -> bool
     ensures { result ≡ ((cell work.now i).flag == 1) }
 {
     load(work, i).flag == 1
 }
 
 // Whether a node is a place, which can be assigned to.
-pub fn is_place(work: &[u64], i: usize) -> bool
-    requires { length work.now ≡ 179200 }
+pub fn is_place(work: &Work, i: usize) -> bool
     ensures { result ≡ a_place (term_of (cell work.now i)) }
 {
-    match term(work, i) {
-        TermNode::Variable(_) | TermNode::Item(_, _) | TermNode::Field(_) => true,
-        _ => false,
-    }
+    matches!(
+        term(work, i),
+        TermNode::Variable(_) | TermNode::Item(_, _) | TermNode::Field(_)
+    )
 }
 
 // Writes a list; the flag says whether all of it is of the core.
-pub fn put_list(work: &mut [u64], i: usize, node: ListNode, plain: bool)
-    requires { (length work.old ≡ 179200) × (i < 25600) }
-    ensures { Listed work.old work.new i node plain }
+pub fn put_list(work: &mut Work, i: usize, node: ListNode, plain: bool)
+    requires { i < 25600 }
+    ensures listed { Listed work.old work.new i node plain }
+    ensures long { length work.new ≡ 179200 }
 {
-    let flag = flag_of(plain);
-    match node {
-        ListNode::Empty => store(
-            work,
-            i,
-            Cell {
-                kind: EMPTY,
-                flag,
-                ..BLANK
-            },
-        ),
-        ListNode::More(before, last) => store(
-            work,
-            i,
-            Cell {
-                kind: MORE,
-                flag,
-                first: before as u64,
-                second: last as u64,
-                ..BLANK
-            },
-        ),
-    }
+    put(work, i, Cell::from(node), plain);
 }
 
 // A list of expressions.
-pub fn list(work: &[u64], i: usize) -> ListNode
-    requires { length work.now ≡ 179200 }
+pub fn list(work: &Work, i: usize) -> ListNode
     ensures { result ≡ list_of (cell work.now i) }
 {
-    let c = load(work, i);
-    match c.kind {
-        MORE => ListNode::More(c.first as usize, c.second as usize),
-        _ => ListNode::Empty,
-    }
+    ListNode::from(load(work, i))
 }

@@ -4,9 +4,11 @@ pub use Rattle.lexer.specs.Ends
 pub use Rattle.lexer.specs.Marks
 pub use Rattle.lexer.specs.Memory
 pub use Rattle.lexer.specs.Places
+pub use Rattle.lexer.specs.Quotes
 pub use Rattle.lexer.specs.Scanning
 pub use Rattle.parser.specs.Frames
 pub use Rattle.parser.specs.Levels
 pub use Rattle.parser.specs.Nodes
 pub use Rattle.parser.specs.Parsing
 pub use Rattle.parser.specs.Precedence
+pub use Rattle.parser.specs.Readers

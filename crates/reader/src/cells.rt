@@ -1,2 +1,2 @@
 // Cells of the work area.
-pub use lexer::cells::{BLANK, CELLS, Cell, WORDS, load, store};
+pub use lexer::cells::{CELLS, Cell, WORDS, Work, load, store};

@@ -1,2 +1,5 @@
 // A program's text as tokens.
-pub use lexer::tokens::{Class, Digits, Keyword, Name, Piece, Token, cut, peek, spells};
+pub use lexer::tokens::{
+    AND, AT_LEAST, AT_MOST, Class, EQUAL, Keyword, Name, OR, Piece, Token, UNEQUAL, UNLIKE, cut,
+    peek, spells,
+};

@@ -5,8 +5,8 @@ use Rattle.lexer.proofs.ahead.name_at.Goals as goal
 
 pub returns-in-Name : goal.returns-in-Name
 returns-in-Name c = λ bs k.
-    let x = c.in-Name.ensures bs k in
+    let x = rw c.in-Name.is at (c.in_ok-x.ensures bs k) in
     (bytes_of bs c.in-Name.x, record { inside = x.2; is = refl }, name_here bs c.args.place c.in-Name.x x.0 x.1)
 
-pub returns-in-Keyword : goal.returns-in-Keyword
-returns-in-Keyword c = λ bs k. no_name_here bs c.args.place _ (c.in-Keyword.ensures bs k)
+pub returns-in_default : goal.returns-in_default
+returns-in_default c = λ bs k. no_name_here bs c.args.place c.in_ok-x.field-0 (c.in_ok-x.ensures bs k) c.in_default.not-Name

@@ -3,9 +3,11 @@ use Rattle.lexer.specs.Memory.{cell}
 use Rattle.lexer.proofs.Whole.{cell_out}
 use Rattle.lexer.proofs.cells.load.Goals as goal
 
-pub returns-then-i-lt-CELLS : goal.returns-then-i-lt-CELLS
-unfolding cell
-returns-then-i-lt-CELLS c = refl
+pub returns-then-i-ge-CELLS : goal.returns-then-i-ge-CELLS
+returns-then-i-ge-CELLS c =
+    let d = c.default.ensures in
+    cell_out c.args.work.now c.args.i c.default.result c.told-work c.if-i-ge-CELLS.true d.0 d.1.0 d.1.1.0 d.1.1.1.0 d.1.1.1.1.0 d.1.1.1.1.1.0 d.1.1.1.1.1.1
 
-pub returns-else-i-lt-CELLS : goal.returns-else-i-lt-CELLS
-returns-else-i-lt-CELLS c = cell_out c.args.work.now c.args.i c.requires c.if-i-lt-CELLS.false
+pub returns : goal.returns
+unfolding cell
+returns c = refl

@@ -3,7 +3,7 @@ use Rattle.lexer.proofs.Cutting.{Far}
 use Rattle.lexer.proofs.tokens.cut.Given as goal
 
 abbrev pub invariant-loop-i : goal.invariant-loop-i
-invariant-loop-i l = (l.n ≤ l.i) × (l.i ≤ length l.text) × Far l.text l.work l.i l.n
+invariant-loop-i l = record { few : l.count ≤ l.i; inside : l.i ≤ length l.text; far : Far l.text l.work l.i l.count }
 
 abbrev pub decreases-loop-i : goal.decreases-loop-i
 decreases-loop-i l = length l.text - l.i

@@ -1,12 +1,16 @@
-use Rattle.std.proofs.Common.{sym, ◌∙◌, arith}
-use Rattle.lexer.proofs.Words.{line_on, line_off, line_out}
+use Rattle.std.proofs.Common.{drop, eqb, rules, tests, sym, ◌∙◌}
+use Rattle.std.proofs.lemmas.List.{take_rest}
+use Rattle.std.proofs.lemmas.Iterator.{YieldsList-from_slice}
+use Rattle.std.proofs.lemmas.Iterator.Search.{position_from_yields_List}
+use Rattle.lexer.proofs.Words.{line_found, line_missing}
 use Rattle.lexer.proofs.tokens.past_line.Goals as goal
 
-pub returns-then-text-i-eq10 : goal.returns-then-text-i-eq10
-returns-then-text-i-eq10 c = (sym (line_off c.args.text.now c.loop-i.i (omega arith) c.if-text-i-eq10.true) ∙ c.loop-i.invariant.2, omega arith)
+pub returns-in-Some-clause-is : goal.returns-in-Some-clause-is
+returns-in-Some-clause-is c =
+    let e = position_from_yields_List (λ b. eqb b 10) _ _ c.position.result c.position.ensures.ran (YieldsList-from_slice (drop c.args.from c.args.text.now) (cc (take_rest c.args.text.now c.args.from))) (λ x b q k. search (rules, tests)) in
+    line_found c.args.text.now c.args.from c.in-Some.before (sym e ∙ c.in-Some.is)
 
-pub loop-i-preserved : goal.loop-i-preserved
-loop-i-preserved c = (omega arith, omega arith, sym (line_on c.args.text.now c.loop-i.i (omega arith) c.if-text-i-eq10.false) ∙ c.loop-i.invariant.2)
-
-pub returns : goal.returns
-returns c = (sym (line_out c.args.text.now c.loop-i.i (omega arith)) ∙ c.loop-i.invariant.2, omega arith)
+pub returns-in-None-clause-is : goal.returns-in-None-clause-is
+returns-in-None-clause-is c =
+    let e = position_from_yields_List (λ b. eqb b 10) _ _ c.position.result c.position.ensures.ran (YieldsList-from_slice (drop c.args.from c.args.text.now) (cc (take_rest c.args.text.now c.args.from))) (λ x b q k. search (rules, tests)) in
+    line_missing c.args.text.now c.args.from (sym e ∙ c.in-None.is)

@@ -1,11 +1,9 @@
-use Rattle.std.proofs.Common.{◌≡◌, ◌-◌, ◌≤◌, length, drop}
-use Rattle.language.specs.Program.{past_quote, quote_ends}
+use Rattle.std.proofs.Common.{◌-◌, ◌≤◌, length}
+use Rattle.lexer.specs.Quotes.{EndsAlike}
 use Rattle.lexer.proofs.tokens.past_quote.Given as goal
 
-abbrev pub invariant-loop-i : goal.invariant-loop-i
-invariant-loop-i l =
-    (l.from ≤ l.i) × (l.i ≤ length l.text) × (past_quote (drop l.i l.text) ≡ past_quote (drop l.from l.text))
-    × (quote_ends (drop l.i l.text) ≡ quote_ends (drop l.from l.text))
+abbrev pub invariant-loop-c : goal.invariant-loop-c
+invariant-loop-c l = record { onward : l.from ≤ l.i; inside : l.i ≤ length l.text; alike : EndsAlike l.text l.from l.i }
 
-abbrev pub decreases-loop-i : goal.decreases-loop-i
-decreases-loop-i l = length l.text - l.i
+abbrev pub decreases-loop-c : goal.decreases-loop-c
+decreases-loop-c l = length l.text - l.i

@@ -1,10 +1,6 @@
-use Rattle.std.proofs.Common.{refl, ap, arith}
-use Rattle.language.specs.Program.{word}
+use Rattle.std.proofs.Common.{refl, arith}
 use Rattle.lexer.specs.Marks.{bytes_of}
 use Rattle.lexer.proofs.tokens.word_token.Goals as goal
-
-pub returns-in-Some : goal.returns-in-Some
-returns-in-Some c = ap word c.in-Some.ensures
 
 pub returns-in-None : goal.returns-in-None
 unfolding bytes_of

@@ -1,6 +1,0 @@
-use Rattle.std.proofs.Common.{refl, ap, ◌∙◌}
-use Rattle.parser.specs.Frames.{frame_of}
-use Rattle.parser.proofs.frames.push.Goals as goal
-
-pub returns : goal.returns
-returns c = record { is = refl; here = ap frame_of c.store.ensures.here ∙ c.frame_cell.ensures; others = c.store.ensures.others }
