@@ -113,16 +113,16 @@ unfolding as_got
 answered (Some z) s = refl
 answered None s = refl
 
+-- what is judged as v is answered as v
+reached : (o : Option ℤ) (r : Result ℤ Trouble) (v : Value) → judged o ≡ within v → r ≡ ok_or o TooLarge → (s : State) → divided r s ≡ as_got (within v) s
+reached o r v f e s = ap (λ t. divided t s) e ∙ answered o s ∙ ap (λ n. as_got n s) f
+
 module _ (a b z : ℤ) (o : Option ℤ) (r : Result ℤ Trouble) (h : b ≡ pos 0 → ⊥) (f : judged o ≡ within (number z)) (e : r ≡ ok_or o TooLarge) where
   pub quotient_answered : z ≡ quot_z a b → (s : State) → divided r s ≡ quotient_got (number a) (number b) s
-  quotient_answered q s =
-      rw (nonzero b h)
-      (ap (λ t. divided t s) e ∙ answered o s ∙ ap (λ n. as_got n s) (f ∙ ap (λ v. within (number v)) q ∙ ap within (sym (quotient_is a b))))
+  quotient_answered q s = rw (nonzero b h) (reached o r _ (f ∙ ap within (ap number q ∙ sym (quotient_is a b))) e s)
 
   pub left_over_answered : z ≡ rem_z a b → (s : State) → divided r s ≡ left_over_got (number a) (number b) s
-  left_over_answered q s =
-      rw (nonzero b h)
-      (ap (λ t. divided t s) e ∙ answered o s ∙ ap (λ n. as_got n s) (f ∙ ap (λ v. within (number v)) q ∙ ap within (sym (left_over_is a b))))
+  left_over_answered q s = rw (nonzero b h) (reached o r _ (f ∙ ap within (ap number q ∙ sym (left_over_is a b))) e s)
 
 -- operators on values, by the numbers that they are taken as
 module _ (a b x y : ℤ) (e : x ≡ a) (f : y ≡ b) (r : Result ℤ Trouble) where
@@ -132,4 +132,4 @@ module _ (a b x y : ℤ) (e : x ≡ a) (f : y ≡ b) (r : Result ℤ Trouble) wh
 
   pub reckoned : (op : Value → Value → Value) (o : Option ℤ) → judged o ≡ within (op (number x) (number y)) → r ≡ ok_or o TooLarge → (v w : Value) (s : State) → number_of v ≡ number a → number_of w ≡ number b →
       divided r s ≡ as_got (within (op (number_of v) (number_of w))) s
-  reckoned op o g p = taken (λ m n. as_got (within (op m n))) (λ s. ap (λ t. divided t s) p ∙ answered o s ∙ ap (λ n. as_got n s) g)
+  reckoned op o g p = taken (λ m n. as_got (within (op m n))) (reached o r _ g p)
