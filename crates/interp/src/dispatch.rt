@@ -8,7 +8,7 @@ ghost use Rattle.interp.specs.Dispatch.{fetched, performed, turned};
 use crate::between::next_line;
 use crate::comparing::compare_two;
 use crate::fields::get_field;
-use crate::jumps::{exit, judge, jump, jump_if, jump_unless, leave, negate};
+use crate::jumps::{exit, judge, jump, jump_on, leave};
 use crate::numbers::{oppose, reckon};
 use crate::ops::{Op, decode};
 use crate::registers::Registers;
@@ -35,16 +35,16 @@ pub fn perform(mem: &mut Memory, regs: &mut Registers, op: Op) -> Result<Turn, R
         Op::LineCount => count_lines(mem, regs),
         Op::FieldCount => count_fields(mem, regs),
         Op::GetField => get_field(mem, regs),
-        Op::Not => Ok(negate(mem, regs)),
+        Op::Not => Ok(judge(mem, regs, false)),
         Op::Opposite => oppose(mem, regs),
         Op::Calculate(c) => reckon(mem, regs, c),
         Op::Compare(c) => Ok(compare_two(mem, regs, c)),
         Op::Join => join(mem, regs),
-        Op::Truth => Ok(judge(mem, regs)),
+        Op::Truth => Ok(judge(mem, regs, true)),
         Op::Fail(k) => Err(Refusal::Stated(k)),
         Op::Jump(to) => Ok(jump(regs, to)),
-        Op::JumpIf(to) => Ok(jump_if(mem, regs, to)),
-        Op::JumpUnless(to) => Ok(jump_unless(mem, regs, to)),
+        Op::JumpIf(to) => Ok(jump_on(mem, regs, true, to)),
+        Op::JumpUnless(to) => Ok(jump_on(mem, regs, false, to)),
         Op::Drop => Ok(drop_top(mem, regs)),
         Op::LeaveLine => Ok(leave(regs)),
         Op::End => Ok(leave(regs)),

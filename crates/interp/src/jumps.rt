@@ -1,5 +1,6 @@
 // Conditions, jumps and ends.
 ghost use Rattle.std.specs.Prelude.{◌≡◌, length, Ok};
+ghost use Rattle.language.specs.Text.{pick};
 ghost use Rattle.regions.specs.Parts.{parts};
 ghost use Rattle.interp.specs.Outcomes.{came};
 ghost use Rattle.interp.specs.Turns.{Did, says};
@@ -12,22 +13,13 @@ use crate::{Refusal, Turn};
 use regions::Memory;
 use values::fields::exit_number;
 
-// 1 if the top holds, otherwise 0.
-pub fn judge(mem: &mut Memory, regs: &mut Registers) -> Turn
-    ensures { ◌≡◌ {A = Did} (record { mem = parts mem.exit.now; regs = regs.new; turn = came (Ok result) }) (judged (parts mem.entry.now) regs.old) }
+// 1 if the top holds, otherwise 0; the other way round where it is wanted that it does not hold.
+pub fn judge(mem: &mut Memory, regs: &mut Registers, wanted: bool) -> Turn
+    ensures { ◌≡◌ {A = Did} (record { mem = parts mem.exit.now; regs = regs.new; turn = came (Ok result) }) (pick wanted (judged (parts mem.entry.now) regs.old) (negated (parts mem.entry.now) regs.old)) }
 {
     let v = top(mem, regs);
-    let b = holds_in(mem, v);
-    replace_top(mem, regs, truth(b))
-}
-
-// 0 if the top holds, otherwise 1.
-pub fn negate(mem: &mut Memory, regs: &mut Registers) -> Turn
-    ensures { ◌≡◌ {A = Did} (record { mem = parts mem.exit.now; regs = regs.new; turn = came (Ok result) }) (negated (parts mem.entry.now) regs.old) }
-{
-    let v = top(mem, regs);
-    let b = holds_in(mem, v);
-    replace_top(mem, regs, truth(!b))
+    let holds = holds_in(mem, v);
+    replace_top(mem, regs, truth(holds == wanted))
 }
 
 pub fn jump(regs: &mut Registers, to: usize) -> Turn
@@ -49,22 +41,13 @@ fn take_and_jump(mem: &mut Memory, regs: &mut Registers, goes: bool, to: usize) 
     turn
 }
 
-// Takes the top, and goes there if it holds.
-pub fn jump_if(mem: &mut Memory, regs: &mut Registers, to: usize) -> Turn
-    ensures { ◌≡◌ {A = Did} (record { mem = parts mem.exit.now; regs = regs.new; turn = came (Ok result) }) (jumped_if (parts mem.entry.now) regs.old to) }
+// Takes the top, and goes there if it holds, or where that is wanted, if it does not.
+pub fn jump_on(mem: &mut Memory, regs: &mut Registers, wanted: bool, to: usize) -> Turn
+    ensures { ◌≡◌ {A = Did} (record { mem = parts mem.exit.now; regs = regs.new; turn = came (Ok result) }) (pick wanted (jumped_if (parts mem.entry.now) regs.old to) (jumped_unless (parts mem.entry.now) regs.old to)) }
 {
     let v = top(mem, regs);
-    let b = holds_in(mem, v);
-    take_and_jump(mem, regs, b, to)
-}
-
-// Takes the top, and goes there unless it holds.
-pub fn jump_unless(mem: &mut Memory, regs: &mut Registers, to: usize) -> Turn
-    ensures { ◌≡◌ {A = Did} (record { mem = parts mem.exit.now; regs = regs.new; turn = came (Ok result) }) (jumped_unless (parts mem.entry.now) regs.old to) }
-{
-    let v = top(mem, regs);
-    let b = holds_in(mem, v);
-    take_and_jump(mem, regs, !b, to)
+    let holds = holds_in(mem, v);
+    take_and_jump(mem, regs, holds == wanted, to)
 }
 
 // Out of the code: the rules for the line, or of the stage, are done. Nothing is on the stack there.

@@ -1,6 +1,6 @@
 use Rattle.std.proofs.Common.{rules}
 use Rattle.interp.specs.Numbers.{Compares}
-use Rattle.interp.proofs.comparing.compare_texts.Goals as goal
+use Rattle.interp.proofs.comparing.compare_with_text.Goals as goal
 
 pub returns : goal.returns
 unfolding Compares
