@@ -28,6 +28,7 @@ fn perform(mem: &mut Memory, regs: &mut Registers, op: Op, out: &mut [u8]) -> Re
 }
 
 // One turn. What it prints goes behind what is used of the row, as much of it as has room.
+#[tactic(auto, unfolding(crate::specs::Dispatch::turned, crate::specs::Dispatch::turned_text))]
 pub fn turn(mem: &mut Memory, regs: &mut Registers, out: &mut [u8]) -> Result<Turn, Refusal>
     requires { 4096 ≤ length out.old }
     ensures did { ◌≡◌ {A = Did} (record { mem = parts mem.exit.now; regs = regs.new; turn = came result }) (turned (parts mem.entry.now) regs.old) }

@@ -26,6 +26,7 @@ fn release_values(mem: &mut Memory, depth: usize, n: usize)
 }
 
 // A print of n values has come so far: when it is finished its values go, otherwise the rest waits for the next row.
+#[tactic(auto, unfolding(crate::specs::Prints::print_parts, crate::specs::Prints::print_regs))]
 fn end_print(mem: &mut Memory, regs: &mut Registers, n: usize, printed: Printed)
     ensures memory { parts mem.new ≡ print_parts (parts mem.old) regs.old n printed }
     ensures regs { regs.new ≡ print_regs regs.old n printed }
@@ -74,6 +75,7 @@ pub fn begin_values(mem: &mut Memory, regs: &mut Registers, n: usize, out: &mut 
 }
 
 // A print that is not finished goes on, if there is one.
+#[tactic(auto, unfolding(crate::specs::Prints::pending_text, crate::specs::Prints::pending_left, crate::specs::Prints::resumed))]
 pub fn resume(mem: &mut Memory, regs: &mut Registers, out: &mut [u8])
     requires { 4096 ≤ length out.old }
     ensures memory { parts mem.new ≡ (resumed (parts mem.old) regs.old).mem }

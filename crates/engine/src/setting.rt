@@ -48,6 +48,7 @@ fn count_fields<T: Bytes>(t: &T) -> usize
 }
 
 // How many fields the text of a value has.
+#[tactic(auto, unfolding(language::specs::Text::as_text))]
 fn fields_in(mem: &Memory, v: Value) -> usize
     ensures { result ≡ length (fields_from [] (text_in (parts mem.now) v)) }
 {
@@ -80,6 +81,7 @@ fn lay_text(mem: &mut Memory, h: Handle, to: usize)
 }
 
 // The text of a value goes into the region of lines, from byte `to` on.
+#[tactic(auto, unfolding(language::specs::Text::as_text, store::specs::Words::put_bytes))]
 fn lay_value(mem: &mut Memory, v: Value, to: usize)
     requires { to < 2 ^ 63 }
     ensures { parts mem.new ≡ with_lines (parts mem.old) (put_bytes (parts mem.old).lines to (text_in (parts mem.old) v)) }

@@ -10,7 +10,7 @@ use crate::comparing::compare_two;
 use crate::fields::get_field;
 use crate::jumps::{exit, judge, jump, jump_on, leave};
 use crate::numbers::{oppose, reckon};
-use crate::ops::{Op, decode};
+use crate::ops::Op;
 use crate::registers::Registers;
 use crate::slots::{count_fields, count_lines, load_slot, save_slot};
 use crate::stack::drop_top;
@@ -22,7 +22,7 @@ use regions::{Memory, code_at};
 pub fn fetch(mem: &Memory, regs: &Registers) -> Op
     ensures { result ≡ fetched (parts mem.now) regs.now }
 {
-    decode(code_at(mem, regs.pc))
+    Op::from(code_at(mem, regs.pc))
 }
 
 // An operation. Prints and the setting of fields are done elsewhere, and are unknown here.
@@ -46,17 +46,14 @@ pub fn perform(mem: &mut Memory, regs: &mut Registers, op: Op) -> Result<Turn, R
         Op::JumpIf(to) => Ok(jump_on(mem, regs, true, to)),
         Op::JumpUnless(to) => Ok(jump_on(mem, regs, false, to)),
         Op::Drop => Ok(drop_top(mem, regs)),
-        Op::LeaveLine => Ok(leave(regs)),
-        Op::End => Ok(leave(regs)),
+        Op::LeaveLine | Op::End => Ok(leave(regs)),
         Op::Exit => exit(mem, regs),
-        Op::SetField => Err(Refusal::Unknown),
-        Op::PrintLine => Err(Refusal::Unknown),
-        Op::PrintValues(_) => Err(Refusal::Unknown),
-        Op::Unknown => Err(Refusal::Unknown),
+        Op::SetField | Op::PrintLine | Op::PrintValues(_) | Op::Unknown => Err(Refusal::Unknown),
     }
 }
 
 // One turn, where the operation is none that is done elsewhere.
+#[tactic(auto, unfolding(crate::specs::Dispatch::turned))]
 pub fn turn(mem: &mut Memory, regs: &mut Registers) -> Result<Turn, Refusal>
     ensures { ◌≡◌ {A = Did} (record { mem = parts mem.exit.now; regs = regs.new; turn = came result }) (turned (parts mem.entry.now) regs.old) }
 {

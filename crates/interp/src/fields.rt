@@ -67,6 +67,7 @@ fn line_value(mem: &mut Memory, place: Place) -> Option<Value>
 }
 
 // Where field k of a line is; field 0 is the line.
+#[tactic(auto, unfolding(crate::specs::Fields::field_place))]
 fn place_of(mem: &Memory, line: Line, k: usize) -> Place
     ensures { result ≡ field_place (parts mem.now).fields line k }
 {

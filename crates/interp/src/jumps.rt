@@ -31,6 +31,7 @@ pub fn jump(regs: &mut Registers, to: usize) -> Turn
 }
 
 // Takes the top; if it is to jump, goes there.
+#[tactic(auto, unfolding(crate::specs::Jumps::taking, crate::specs::Turns::dropped))]
 fn take_and_jump(mem: &mut Memory, regs: &mut Registers, goes: bool, to: usize) -> Turn
     ensures { ◌≡◌ {A = Did} (record { mem = parts mem.exit.now; regs = regs.new; turn = came (Ok result) }) (taking (parts mem.entry.now) regs.old goes to) }
 {

@@ -51,13 +51,16 @@ const ROW: usize = 18;
 
 const WORDS: usize = 64;
 
-fn stage_of(n: u64) -> Stage
-    ensures { result ≡ stage_of n }
-{
-    match n {
-        0 => Stage::Begin,
-        1 => Stage::Lines,
-        _ => Stage::End,
+impl From<u64> for Stage {
+    ghost from_gives = { λ n stage. stage ≡ stage_of n };
+
+    #[tactic(auto, unfolding(crate::specs::Registers::stage_of))]
+    fn from(n: u64) -> Stage {
+        match n {
+            0 => Stage::Begin,
+            1 => Stage::Lines,
+            _ => Stage::End,
+        }
     }
 }
 
@@ -108,7 +111,7 @@ fn registers_in(words: &[u64]) -> Registers
         pc: words[0] as usize,
         depth: words[1] as usize,
         running: words[2] != 0,
-        stage: stage_of(words[3]),
+        stage: Stage::from(words[3]),
         count: words[4],
         line: line_in(words),
         input: input_in(words),

@@ -34,6 +34,7 @@ pub fn advance(regs: &mut Registers)
 }
 
 // A number comes onto the stack; there is no text to hold.
+#[tactic(auto, unfolding(crate::specs::Turns::pushed))]
 fn push_number(mem: &mut Memory, regs: &mut Registers, n: i64) -> Result<Turn, Refusal>
     ensures { ◌≡◌ {A = Did} (record { mem = parts mem.exit.now; regs = regs.new; turn = came result }) (pushed (parts mem.entry.now) regs.old (Number n)) }
 {
@@ -47,6 +48,7 @@ fn push_number(mem: &mut Memory, regs: &mut Registers, n: i64) -> Result<Turn, R
 }
 
 // A value comes onto the stack.
+#[tactic(auto, unfolding(crate::specs::Turns::pushed))]
 pub fn push(mem: &mut Memory, regs: &mut Registers, v: Value) -> Result<Turn, Refusal>
     ensures { ◌≡◌ {A = Did} (record { mem = parts mem.exit.now; regs = regs.new; turn = came result }) (pushed (parts mem.entry.now) regs.old v) }
 {

@@ -25,6 +25,7 @@ use store::texts::Handle;
 const LONGEST: usize = 65_535;
 
 // How many bytes the text of a value has.
+#[tactic(auto, unfolding(language::specs::Text::as_text))]
 pub fn text_len(mem: &Memory, v: Value) -> usize
     ensures { result ≡ length (text_in (parts mem.now) v) }
 {
@@ -78,6 +79,7 @@ fn join_shorts(a: Short, b: Short) -> Short
 }
 
 // The text of a value goes into a text, from byte `at` on.
+#[tactic(auto, unfolding(language::specs::Text::as_text, store::specs::Space::written, store::specs::Words::put_bytes))]
 fn put_text(mem: &mut Memory, h: Handle, at: usize, v: Value)
     ensures { parts mem.new ≡ with_texts (parts mem.old) (written 77822 (parts mem.old).texts h.index at (text_in (parts mem.old) v)) }
 {

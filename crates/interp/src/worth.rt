@@ -14,6 +14,7 @@ use values::compare::{number_holds, text_holds};
 use values::texts::number_of;
 
 // The number that a value is taken as.
+#[tactic(auto, unfolding(language::specs::Text::number_of, language::specs::Text::signed, language::specs::Text::no_blanks))]
 pub fn number_in(mem: &Memory, v: Value) -> i64
     ensures { number result ≡ number_of (worth_in (parts mem.now) v) }
 {
@@ -48,5 +49,5 @@ pub fn no_bytes() -> Short
 pub fn truth(b: bool) -> Value
     ensures { result ≡ truth_of b }
 {
-    Value::Number(if b { 1 } else { 0 })
+    Value::Number(i64::from(b))
 }
