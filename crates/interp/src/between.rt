@@ -2,7 +2,7 @@
 ghost use Rattle.std.specs.Prelude.{◌≡◌, length};
 ghost use Rattle.regions.specs.Parts.{parts};
 ghost use Rattle.interp.specs.Outcomes.{came};
-ghost use Rattle.interp.specs.Turns.{Did};
+ghost use Rattle.interp.specs.Turns.{says};
 ghost use Rattle.interp.specs.Between.{started_regs, started_turn, closing, waited_regs, waited_turn, last_taken, line_sought, line_next};
 
 use crate::registers::{Registers, Stage};
@@ -67,7 +67,7 @@ fn wait(regs: &mut Registers, input: Input) -> Result<Turn, Refusal>
 // The end was told: what waits is the last line, if there is something.
 #[tactic(auto, unfolding(crate::specs::Between::last_taken))]
 fn take_last(mem: &mut Memory, regs: &mut Registers, input: Input) -> Result<Turn, Refusal>
-    ensures { ◌≡◌ {A = Did} (record { mem = parts mem.exit.now; regs = regs.new; turn = came result }) (last_taken (parts mem.entry.now) regs.old input) }
+    ensures { says (came result) (parts mem.new) regs.new ≡ last_taken (parts mem.old) regs.old input }
 {
     let mut rest = input;
     match last_line(mem, &mut rest) {
@@ -82,7 +82,7 @@ fn take_last(mem: &mut Memory, regs: &mut Registers, input: Input) -> Result<Tur
 // Looks for the next line. Where that is refused, the registers are as they were, so that it would be found again.
 #[tactic(auto, unfolding(crate::specs::Between::line_sought))]
 fn seek_line(mem: &mut Memory, regs: &mut Registers) -> Result<Turn, Refusal>
-    ensures { ◌≡◌ {A = Did} (record { mem = parts mem.exit.now; regs = regs.new; turn = came result }) (line_sought (parts mem.entry.now) regs.old) }
+    ensures { says (came result) (parts mem.new) regs.new ≡ line_sought (parts mem.old) regs.old }
 {
     let mut input = regs.input;
     match scan(mem, &mut input) {
@@ -95,7 +95,7 @@ fn seek_line(mem: &mut Memory, regs: &mut Registers) -> Result<Turn, Refusal>
 // The next line with its rules, or the rules for the end, or the end of the run.
 #[tactic(auto, unfolding(crate::specs::Between::line_next))]
 pub fn next_line(mem: &mut Memory, regs: &mut Registers) -> Result<Turn, Refusal>
-    ensures { ◌≡◌ {A = Did} (record { mem = parts mem.exit.now; regs = regs.new; turn = came result }) (line_next (parts mem.entry.now) regs.old) }
+    ensures { says (came result) (parts mem.new) regs.new ≡ line_next (parts mem.old) regs.old }
 {
     match regs.stage {
         Stage::Begin | Stage::Lines => seek_line(mem, regs),

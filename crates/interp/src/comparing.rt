@@ -5,7 +5,7 @@ ghost use Rattle.store.specs.Numbers.{number};
 ghost use Rattle.values.specs.Compare.{operator, worth};
 ghost use Rattle.regions.specs.Parts.{parts};
 ghost use Rattle.interp.specs.Outcomes.{came};
-ghost use Rattle.interp.specs.Turns.{Did, worth_in};
+ghost use Rattle.interp.specs.Turns.{says, worth_in};
 ghost use Rattle.interp.specs.Numbers.{Compares, figured};
 
 use crate::Turn;
@@ -47,6 +47,7 @@ fn compare_with_number<T: Bytes>(c: Comparison, a: Operand<T>, n: i64) -> bool
     compare(c, a, Operand::<NoText>::Number(n))
 }
 
+#[tactic(auto, unfolding(crate::specs::Numbers::Compares))]
 fn compare_with_text<A: Bytes, B: Bytes>(c: Comparison, a: Operand<A>, t: &B) -> bool
     ensures { Compares c result (worth A.Bytes.bytes a.entry) (text (B.Bytes.bytes t.now)) }
 {
@@ -84,7 +85,7 @@ fn compare_values(mem: &Memory, c: Comparison, a: Value, b: Value) -> bool
 
 // 1 if the two on top compare so, otherwise 0.
 pub fn compare_two(mem: &mut Memory, regs: &mut Registers, c: Comparison) -> Turn
-    ensures { ◌≡◌ {A = Did} (record { mem = parts mem.exit.now; regs = regs.new; turn = came (Ok result) }) (figured (operator c) (parts mem.entry.now) regs.old) }
+    ensures { says (came (Ok result)) (parts mem.new) regs.new ≡ figured (operator c) (parts mem.old) regs.old }
 {
     let first = under(mem, regs);
     let second = top(mem, regs);

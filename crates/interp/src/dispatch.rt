@@ -2,7 +2,7 @@
 ghost use Rattle.std.specs.Prelude.{◌≡◌, length};
 ghost use Rattle.regions.specs.Parts.{parts};
 ghost use Rattle.interp.specs.Outcomes.{came};
-ghost use Rattle.interp.specs.Turns.{Did};
+ghost use Rattle.interp.specs.Turns.{says};
 ghost use Rattle.interp.specs.Dispatch.{fetched, performed, turned};
 
 use crate::between::next_line;
@@ -19,6 +19,7 @@ use crate::{Refusal, Turn};
 use regions::{Memory, code_at};
 
 // The next operation of the code.
+#[tactic(auto, unfolding(crate::specs::Dispatch::fetched))]
 pub fn fetch(mem: &Memory, regs: &Registers) -> Op
     ensures { result ≡ fetched (parts mem.now) regs.now }
 {
@@ -27,7 +28,7 @@ pub fn fetch(mem: &Memory, regs: &Registers) -> Op
 
 // An operation. Prints and the setting of fields are done elsewhere, and are unknown here.
 pub fn perform(mem: &mut Memory, regs: &mut Registers, op: Op) -> Result<Turn, Refusal>
-    ensures { ◌≡◌ {A = Did} (record { mem = parts mem.exit.now; regs = regs.new; turn = came result }) (performed op (parts mem.entry.now) regs.old) }
+    ensures { says (came result) (parts mem.new) regs.new ≡ performed op (parts mem.old) regs.old }
 {
     match op {
         Op::Load(i) => load_slot(mem, regs, i),
@@ -35,16 +36,16 @@ pub fn perform(mem: &mut Memory, regs: &mut Registers, op: Op) -> Result<Turn, R
         Op::LineCount => count_lines(mem, regs),
         Op::FieldCount => count_fields(mem, regs),
         Op::GetField => get_field(mem, regs),
-        Op::Not => Ok(judge(mem, regs, false)),
+        Op::Not => Ok(judge::<false>(mem, regs)),
         Op::Opposite => oppose(mem, regs),
         Op::Calculate(c) => reckon(mem, regs, c),
         Op::Compare(c) => Ok(compare_two(mem, regs, c)),
         Op::Join => join(mem, regs),
-        Op::Truth => Ok(judge(mem, regs, true)),
+        Op::Truth => Ok(judge::<true>(mem, regs)),
         Op::Fail(k) => Err(Refusal::Stated(k)),
         Op::Jump(to) => Ok(jump(regs, to)),
-        Op::JumpIf(to) => Ok(jump_on(mem, regs, true, to)),
-        Op::JumpUnless(to) => Ok(jump_on(mem, regs, false, to)),
+        Op::JumpIf(to) => Ok(jump_on::<true>(mem, regs, to)),
+        Op::JumpUnless(to) => Ok(jump_on::<false>(mem, regs, to)),
         Op::Drop => Ok(drop_top(mem, regs)),
         Op::LeaveLine | Op::End => Ok(leave(regs)),
         Op::Exit => exit(mem, regs),
@@ -55,7 +56,7 @@ pub fn perform(mem: &mut Memory, regs: &mut Registers, op: Op) -> Result<Turn, R
 // One turn, where the operation is none that is done elsewhere.
 #[tactic(auto, unfolding(crate::specs::Dispatch::turned))]
 pub fn turn(mem: &mut Memory, regs: &mut Registers) -> Result<Turn, Refusal>
-    ensures { ◌≡◌ {A = Did} (record { mem = parts mem.exit.now; regs = regs.new; turn = came result }) (turned (parts mem.entry.now) regs.old) }
+    ensures { says (came result) (parts mem.new) regs.new ≡ turned (parts mem.old) regs.old }
 {
     if regs.running {
         let op = fetch(mem, regs);

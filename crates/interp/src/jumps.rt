@@ -3,7 +3,7 @@ ghost use Rattle.std.specs.Prelude.{◌≡◌, length, Ok};
 ghost use Rattle.language.specs.Text.{pick};
 ghost use Rattle.regions.specs.Parts.{parts};
 ghost use Rattle.interp.specs.Outcomes.{came};
-ghost use Rattle.interp.specs.Turns.{Did, says};
+ghost use Rattle.interp.specs.Turns.{says};
 ghost use Rattle.interp.specs.Jumps.{judged, negated, jumped, taking, jumped_if, jumped_unless, between, exited};
 
 use crate::registers::Registers;
@@ -14,12 +14,12 @@ use regions::Memory;
 use values::fields::exit_number;
 
 // 1 if the top holds, otherwise 0; the other way round where it is wanted that it does not hold.
-pub fn judge(mem: &mut Memory, regs: &mut Registers, wanted: bool) -> Turn
-    ensures { ◌≡◌ {A = Did} (record { mem = parts mem.exit.now; regs = regs.new; turn = came (Ok result) }) (pick wanted (judged (parts mem.entry.now) regs.old) (negated (parts mem.entry.now) regs.old)) }
+pub fn judge<const WANTED: bool>(mem: &mut Memory, regs: &mut Registers) -> Turn
+    ensures { says (came (Ok result)) (parts mem.new) regs.new ≡ pick WANTED (judged (parts mem.old) regs.old) (negated (parts mem.old) regs.old) }
 {
     let v = top(mem, regs);
     let holds = holds_in(mem, v);
-    replace_top(mem, regs, truth(holds == wanted))
+    replace_top(mem, regs, truth(holds == WANTED))
 }
 
 pub fn jump(regs: &mut Registers, to: usize) -> Turn
@@ -33,7 +33,7 @@ pub fn jump(regs: &mut Registers, to: usize) -> Turn
 // Takes the top; if it is to jump, goes there.
 #[tactic(auto, unfolding(crate::specs::Jumps::taking, crate::specs::Turns::dropped))]
 fn take_and_jump(mem: &mut Memory, regs: &mut Registers, goes: bool, to: usize) -> Turn
-    ensures { ◌≡◌ {A = Did} (record { mem = parts mem.exit.now; regs = regs.new; turn = came (Ok result) }) (taking (parts mem.entry.now) regs.old goes to) }
+    ensures { says (came (Ok result)) (parts mem.new) regs.new ≡ taking (parts mem.old) regs.old goes to }
 {
     let turn = drop_top(mem, regs);
     if goes {
@@ -43,12 +43,12 @@ fn take_and_jump(mem: &mut Memory, regs: &mut Registers, goes: bool, to: usize) 
 }
 
 // Takes the top, and goes there if it holds, or where that is wanted, if it does not.
-pub fn jump_on(mem: &mut Memory, regs: &mut Registers, wanted: bool, to: usize) -> Turn
-    ensures { ◌≡◌ {A = Did} (record { mem = parts mem.exit.now; regs = regs.new; turn = came (Ok result) }) (pick wanted (jumped_if (parts mem.entry.now) regs.old to) (jumped_unless (parts mem.entry.now) regs.old to)) }
+pub fn jump_on<const WANTED: bool>(mem: &mut Memory, regs: &mut Registers, to: usize) -> Turn
+    ensures { says (came (Ok result)) (parts mem.new) regs.new ≡ pick WANTED (jumped_if (parts mem.old) regs.old to) (jumped_unless (parts mem.old) regs.old to) }
 {
     let v = top(mem, regs);
     let holds = holds_in(mem, v);
-    take_and_jump(mem, regs, holds == wanted, to)
+    take_and_jump(mem, regs, holds == WANTED, to)
 }
 
 // Out of the code: the rules for the line, or of the stage, are done. Nothing is on the stack there.

@@ -4,7 +4,7 @@ ghost use Rattle.values.specs.Numbers.{operation};
 ghost use Rattle.regions.specs.Parts.{parts};
 ghost use Rattle.store.specs.declared.cells.Value.TheVariants.{Number};
 ghost use Rattle.interp.specs.Outcomes.{came};
-ghost use Rattle.interp.specs.Turns.{Did, under_of, top_of};
+ghost use Rattle.interp.specs.Turns.{says, under_of, top_of};
 ghost use Rattle.interp.specs.Numbers.{refusal_of, figured, figured_one};
 
 use crate::registers::Registers;
@@ -36,7 +36,7 @@ fn reckon_numbers(
     b: i64,
 ) -> Result<Turn, Refusal>
     requires { (Number a ≡ under_of (parts mem.old) regs.old) × (Number b ≡ top_of (parts mem.old) regs.old) }
-    ensures { ◌≡◌ {A = Did} (record { mem = parts mem.exit.now; regs = regs.new; turn = came result }) (figured (operation c) (parts mem.entry.now) regs.old) }
+    ensures { says (came result) (parts mem.new) regs.new ≡ figured (operation c) (parts mem.old) regs.old }
 {
     let n = calculate(c, a, b)?;
     Ok(cover_two(mem, regs, Value::Number(n)))
@@ -51,7 +51,7 @@ fn reckon_values(
     second: Value,
 ) -> Result<Turn, Refusal>
     requires { (first ≡ under_of (parts mem.old) regs.old) × (second ≡ top_of (parts mem.old) regs.old) }
-    ensures { ◌≡◌ {A = Did} (record { mem = parts mem.exit.now; regs = regs.new; turn = came result }) (figured (operation c) (parts mem.entry.now) regs.old) }
+    ensures { says (came result) (parts mem.new) regs.new ≡ figured (operation c) (parts mem.old) regs.old }
 {
     let m = number_in(mem, first);
     let n = number_in(mem, second);
@@ -63,7 +63,7 @@ fn reckon_values(
 
 // A number from the two on top, which mostly are numbers.
 pub fn reckon(mem: &mut Memory, regs: &mut Registers, c: Arithmetic) -> Result<Turn, Refusal>
-    ensures { ◌≡◌ {A = Did} (record { mem = parts mem.exit.now; regs = regs.new; turn = came result }) (figured (operation c) (parts mem.entry.now) regs.old) }
+    ensures { says (came result) (parts mem.new) regs.new ≡ figured (operation c) (parts mem.old) regs.old }
 {
     let first = under(mem, regs);
     let second = top(mem, regs);
@@ -75,7 +75,7 @@ pub fn reckon(mem: &mut Memory, regs: &mut Registers, c: Arithmetic) -> Result<T
 
 // The opposite of the number on top.
 pub fn oppose(mem: &mut Memory, regs: &mut Registers) -> Result<Turn, Refusal>
-    ensures { ◌≡◌ {A = Did} (record { mem = parts mem.exit.now; regs = regs.new; turn = came result }) (figured_one 1 (parts mem.entry.now) regs.old) }
+    ensures { says (came result) (parts mem.new) regs.new ≡ figured_one 1 (parts mem.old) regs.old }
 {
     let v = top(mem, regs);
     let a = number_in(mem, v);

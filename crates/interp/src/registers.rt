@@ -64,6 +64,7 @@ impl From<u64> for Stage {
     }
 }
 
+#[tactic(auto, unfolding(crate::specs::Registers::line_in))]
 fn line_in(words: &[u64]) -> Line
     requires { length words.now ≡ 64 }
     ensures { result ≡ line_in words.now }
@@ -77,6 +78,7 @@ fn line_in(words: &[u64]) -> Line
     }
 }
 
+#[tactic(auto, unfolding(crate::specs::Registers::input_in))]
 fn input_in(words: &[u64]) -> Input
     requires { length words.now ≡ 64 }
     ensures { result ≡ input_in words.now }
@@ -93,6 +95,7 @@ fn input_in(words: &[u64]) -> Input
     }
 }
 
+#[tactic(auto, unfolding(crate::specs::Registers::print_in))]
 fn print_in(words: &[u64]) -> Print
     requires { length words.now ≡ 64 }
     ensures { result ≡ print_in words.now }
@@ -103,6 +106,7 @@ fn print_in(words: &[u64]) -> Print
     }
 }
 
+#[tactic(auto, unfolding(crate::specs::Registers::registers_in))]
 fn registers_in(words: &[u64]) -> Registers
     requires { length words.now ≡ 64 }
     ensures { result ≡ registers_in words.now }
@@ -123,12 +127,14 @@ fn registers_in(words: &[u64]) -> Registers
 }
 
 // The registers, as memory has them when a step begins.
+#[tactic(auto, unfolding(regions::specs::Parts::parts))]
 pub fn load_registers(mem: &Memory) -> Registers
     ensures { result ≡ registers_in (parts mem.now).registers }
 {
     registers_in(&mem[0..WORDS])
 }
 
+#[tactic(auto, unfolding(crate::specs::Registers::row_of))]
 fn row_of(regs: Registers) -> [u64; ROW]
     ensures { result ≡ row_of regs }
 {

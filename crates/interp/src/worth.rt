@@ -27,6 +27,7 @@ pub fn number_in(mem: &Memory, v: Value) -> i64
 }
 
 // Whether a value counts as true.
+#[tactic(auto, unfolding(language::specs::Text::holds))]
 pub fn holds_in(mem: &Memory, v: Value) -> bool
     ensures { result ≡ holds (worth_in (parts mem.now) v) }
 {
@@ -39,6 +40,7 @@ pub fn holds_in(mem: &Memory, v: Value) -> bool
 }
 
 // The short text without bytes, as what is not set is taken.
+#[tactic(auto, unfolding(store::specs::Words::bytes_of))]
 pub fn no_bytes() -> Short
     ensures { bytes_of result.len result.word ≡ [] }
 {

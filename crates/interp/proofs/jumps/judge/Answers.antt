@@ -7,4 +7,4 @@ use Rattle.interp.proofs.jumps.judge.Goals as goal
 
 pub returns : goal.returns
 unfolding judged negated
-returns c = search (rules, as_wanted (λ b. replaced (parts c.args.mem.now) c.args.regs.now (truth_of b)))
+returns g c = search (rules, as_wanted (λ b. replaced (parts c.args.mem.now) c.args.regs.now (truth_of b)))

@@ -6,4 +6,4 @@ use Rattle.interp.proofs.jumps.jump_on.Goals as goal
 
 pub returns : goal.returns
 unfolding jumped_if jumped_unless
-returns c = search (rules, as_wanted (λ b. taking (parts c.args.mem.now) c.args.regs.now b c.args.to))
+returns g c = search (rules, as_wanted (λ b. taking (parts c.args.mem.now) c.args.regs.now b c.args.to))
