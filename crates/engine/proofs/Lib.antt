@@ -4,4 +4,3 @@ mod Printing
 pub mod Saving
 mod Stepping
 mod Using
-mod Quiet

@@ -46,7 +46,7 @@ pub struct Registers {
     pub used: usize,
 }
 
-// How many words the registers take, and how many there are for them.
+// How many words the registers take, and how many there are for them. Registers are told from words, and back, place by place: that is memory's format.
 const ROW: usize = 18;
 
 const WORDS: usize = 64;
