@@ -62,13 +62,6 @@ text_most m h e =
     let u = length_unpacked (drop 20482 (part 94976 98304 m)) in
     simp (length-take, length-drop) (omega arith)
 
--- behind the last field there is none
-pub all_counted : (bs : List ℕ) (n from : ℕ) → length (fields_from [] bs) ≡ n + length (fields_from [] (drop from bs)) → length bs ≤ from → n ≡ length (fields_from [] bs)
-unfolding fields_from
-all_counted bs n from e h =
-    let f : length (fields_from [] (drop from bs)) ≡ 0 = ap (λ x. length (fields_from [] x)) (drop_all from bs h) in
-    omega arith
-
 -- a line that has no room isn't built
 unbuilt : (p : Parts) (l : Line) (n k : ℕ) → built p l n k ≡ None → after_built p l n k ≡ p
 unfolding built after_built

@@ -2,7 +2,7 @@
 ghost use Rattle.std.specs.Prelude.{◌≡◌, ◌≤◌, length};
 ghost use Rattle.regions.specs.Parts.{parts};
 ghost use Rattle.interp.specs.Outcomes.{came};
-ghost use Rattle.interp.specs.Turns.{Did};
+ghost use Rattle.interp.specs.Turns.{says};
 ghost use Rattle.engine.specs.Dispatch.{performed, text_printed, turned, turned_text, lent_after};
 
 use crate::prints::{begin_line, begin_values};
@@ -16,7 +16,7 @@ use regions::Memory;
 // An operation.
 fn perform(mem: &mut Memory, regs: &mut Registers, op: Op, out: &mut [u8]) -> Result<Turn, Refusal>
     requires { 4096 ≤ length out.old }
-    ensures did { ◌≡◌ {A = Did} (record { mem = parts mem.exit.now; regs = regs.new; turn = came result }) (performed op (parts mem.entry.now) regs.old) }
+    ensures did { says (came result) (parts mem.new) regs.new ≡ performed op (parts mem.old) regs.old }
     ensures row { out.new ≡ lent_after out.old regs.old.used (text_printed op (parts mem.old) regs.old) }
 {
     match op {
@@ -28,9 +28,10 @@ fn perform(mem: &mut Memory, regs: &mut Registers, op: Op, out: &mut [u8]) -> Re
 }
 
 // One turn. What it prints goes behind what is used of the row, as much of it as has room.
+#[tactic(auto, unfolding(crate::specs::Dispatch::turned, crate::specs::Dispatch::turned_text))]
 pub fn turn(mem: &mut Memory, regs: &mut Registers, out: &mut [u8]) -> Result<Turn, Refusal>
     requires { 4096 ≤ length out.old }
-    ensures did { ◌≡◌ {A = Did} (record { mem = parts mem.exit.now; regs = regs.new; turn = came result }) (turned (parts mem.entry.now) regs.old) }
+    ensures did { says (came result) (parts mem.new) regs.new ≡ turned (parts mem.old) regs.old }
     ensures row { out.new ≡ lent_after out.old regs.old.used (turned_text (parts mem.old) regs.old) }
 {
     if regs.running {

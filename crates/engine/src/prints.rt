@@ -3,7 +3,7 @@ ghost use Rattle.std.specs.Prelude.{◌≡◌, ◌≤◌, length, Ok};
 ghost use Rattle.regions.specs.Parts.{parts};
 ghost use Rattle.rows.specs.Rows.{over_row};
 ghost use Rattle.interp.specs.Outcomes.{came};
-ghost use Rattle.interp.specs.Turns.{Did};
+ghost use Rattle.interp.specs.Turns.{says};
 ghost use Rattle.engine.specs.Prints.{few, advanced, released, print_parts, print_regs, printed_so, line_text, values_text, line_printed, values_printed, pending_left, resumed};
 ghost use Rattle.engine.specs.Dispatch.{lent_after};
 
@@ -26,6 +26,7 @@ fn release_values(mem: &mut Memory, depth: usize, n: usize)
 }
 
 // A print of n values has come so far: when it is finished its values go, otherwise the rest waits for the next row.
+#[tactic(auto, unfolding(crate::specs::Prints::print_parts, crate::specs::Prints::print_regs))]
 fn end_print(mem: &mut Memory, regs: &mut Registers, n: usize, printed: Printed)
     ensures memory { parts mem.new ≡ print_parts (parts mem.old) regs.old n printed }
     ensures regs { regs.new ≡ print_regs regs.old n printed }
@@ -45,7 +46,7 @@ fn end_print(mem: &mut Memory, regs: &mut Registers, n: usize, printed: Printed)
 
 // A print of n values began and has come so far: the code goes on behind it.
 fn begin_print(mem: &mut Memory, regs: &mut Registers, n: usize, printed: Printed) -> Turn
-    ensures { ◌≡◌ {A = Did} (record { mem = parts mem.exit.now; regs = regs.new; turn = came (Ok result) }) (printed_so (parts mem.entry.now) (advanced regs.old) n printed) }
+    ensures { says (came (Ok result)) (parts mem.new) regs.new ≡ printed_so (parts mem.old) (advanced regs.old) n printed }
 {
     advance(regs);
     end_print(mem, regs, n, printed);
@@ -53,9 +54,10 @@ fn begin_print(mem: &mut Memory, regs: &mut Registers, n: usize, printed: Printe
 }
 
 // A print of the line begins.
+#[tactic(auto, unfolding(crate::specs::Prints::line_printed))]
 pub fn begin_line(mem: &mut Memory, regs: &mut Registers, out: &mut [u8]) -> Turn
     requires { 4096 ≤ length out.old }
-    ensures did { ◌≡◌ {A = Did} (record { mem = parts mem.exit.now; regs = regs.new; turn = came (Ok result) }) (line_printed (parts mem.entry.now) regs.old) }
+    ensures did { says (came (Ok result)) (parts mem.new) regs.new ≡ line_printed (parts mem.old) regs.old }
     ensures row { out.new ≡ over_row out.old regs.old.used (line_text (parts mem.old) regs.old) }
 {
     let printed = print_line(mem, regs.line.place, 0, out, regs.used);
@@ -63,9 +65,10 @@ pub fn begin_line(mem: &mut Memory, regs: &mut Registers, out: &mut [u8]) -> Tur
 }
 
 // A print of the n topmost values begins, or of as many as fit on the stack.
+#[tactic(auto, unfolding(crate::specs::Prints::values_printed))]
 pub fn begin_values(mem: &mut Memory, regs: &mut Registers, n: usize, out: &mut [u8]) -> Turn
     requires { 4096 ≤ length out.old }
-    ensures did { ◌≡◌ {A = Did} (record { mem = parts mem.exit.now; regs = regs.new; turn = came (Ok result) }) (values_printed (parts mem.entry.now) regs.old (few n)) }
+    ensures did { says (came (Ok result)) (parts mem.new) regs.new ≡ values_printed (parts mem.old) regs.old (few n) }
     ensures row { out.new ≡ over_row out.old regs.old.used (values_text (parts mem.old) regs.old (few n)) }
 {
     let n = n.min(CELLS);
@@ -74,6 +77,7 @@ pub fn begin_values(mem: &mut Memory, regs: &mut Registers, n: usize, out: &mut 
 }
 
 // A print that is not finished goes on, if there is one.
+#[tactic(auto, unfolding(crate::specs::Prints::pending_text, crate::specs::Prints::pending_left, crate::specs::Prints::resumed))]
 pub fn resume(mem: &mut Memory, regs: &mut Registers, out: &mut [u8])
     requires { 4096 ≤ length out.old }
     ensures memory { parts mem.new ≡ (resumed (parts mem.old) regs.old).mem }

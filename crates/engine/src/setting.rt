@@ -5,7 +5,7 @@ ghost use Rattle.store.specs.Words.{put_bytes};
 ghost use Rattle.store.specs.Space.{text_of};
 ghost use Rattle.regions.specs.Parts.{parts, with_lines};
 ghost use Rattle.interp.specs.Outcomes.{came};
-ghost use Rattle.interp.specs.Turns.{Did};
+ghost use Rattle.interp.specs.Turns.{says};
 ghost use Rattle.interp.specs.Texts.{text_in};
 ghost use Rattle.engine.specs.Setting.{relined, line_set, nth_set, field_set};
 
@@ -48,6 +48,7 @@ fn count_fields<T: Bytes>(t: &T) -> usize
 }
 
 // How many fields the text of a value has.
+#[tactic(auto, unfolding(language::specs::Text::as_text))]
 fn fields_in(mem: &Memory, v: Value) -> usize
     ensures { result ≡ length (fields_from [] (text_in (parts mem.now) v)) }
 {
@@ -80,6 +81,7 @@ fn lay_text(mem: &mut Memory, h: Handle, to: usize)
 }
 
 // The text of a value goes into the region of lines, from byte `to` on.
+#[tactic(auto, unfolding(language::specs::Text::as_text, store::specs::Words::put_bytes))]
 fn lay_value(mem: &mut Memory, v: Value, to: usize)
     requires { to < 2 ^ 63 }
     ensures { parts mem.new ≡ with_lines (parts mem.old) (put_bytes (parts mem.old).lines to (text_in (parts mem.old) v)) }
@@ -94,7 +96,7 @@ fn lay_value(mem: &mut Memory, v: Value, to: usize)
 
 // A line that was made anew is the current one; the field's number goes.
 fn take_line(mem: &mut Memory, regs: &mut Registers, line: Line) -> Turn
-    ensures { ◌≡◌ {A = Did} (record { mem = parts mem.exit.now; regs = regs.new; turn = came (Ok result) }) (relined (parts mem.entry.now) regs.old line) }
+    ensures { says (came (Ok result)) (parts mem.new) regs.new ≡ relined (parts mem.old) regs.old line }
 {
     regs.line = line;
     drop_top(mem, regs)
@@ -102,7 +104,7 @@ fn take_line(mem: &mut Memory, regs: &mut Registers, line: Line) -> Turn
 
 // `$0` becomes the text of a value. What may be refused is looked for before anything is changed.
 fn set_line(mem: &mut Memory, regs: &mut Registers, v: Value) -> Result<Turn, Refusal>
-    ensures { ◌≡◌ {A = Did} (record { mem = parts mem.exit.now; regs = regs.new; turn = came result }) (line_set (parts mem.entry.now) regs.old (text_in (parts mem.entry.now) v)) }
+    ensures { says (came result) (parts mem.new) regs.new ≡ line_set (parts mem.old) regs.old (text_in (parts mem.old) v) }
 {
     let len = text_len(mem, v);
     if len > LONGEST {
@@ -122,7 +124,7 @@ fn set_line(mem: &mut Memory, regs: &mut Registers, v: Value) -> Result<Turn, Re
 
 // Field k, which is not 0, becomes the text of a value.
 fn set_nth(mem: &mut Memory, regs: &mut Registers, k: usize, v: Value) -> Result<Turn, Refusal>
-    ensures { ◌≡◌ {A = Did} (record { mem = parts mem.exit.now; regs = regs.new; turn = came result }) (nth_set (parts mem.entry.now) regs.old k (text_in (parts mem.entry.now) v)) }
+    ensures { says (came result) (parts mem.new) regs.new ≡ nth_set (parts mem.old) regs.old k (text_in (parts mem.old) v) }
 {
     let len = text_len(mem, v);
     let Some(line) = build(mem, regs.line, k, len) else {
@@ -135,7 +137,7 @@ fn set_nth(mem: &mut Memory, regs: &mut Registers, k: usize, v: Value) -> Result
 
 // The field whose number is on top becomes the value under it.
 pub fn set_field(mem: &mut Memory, regs: &mut Registers) -> Result<Turn, Refusal>
-    ensures { ◌≡◌ {A = Did} (record { mem = parts mem.exit.now; regs = regs.new; turn = came result }) (field_set (parts mem.entry.now) regs.old) }
+    ensures { says (came result) (parts mem.new) regs.new ≡ field_set (parts mem.old) regs.old }
 {
     let number = top(mem, regs);
     let n = number_in(mem, number);

@@ -58,6 +58,7 @@ fn turns(
 }
 
 // What is answered: what is in the row is written before anything else.
+#[tactic(auto, unfolding(crate::specs::Steps::answer_of))]
 fn answer(last: Result<Turn, Refusal>, used: usize) -> Result<Answer, Refusal>
     ensures { said result ≡ answer_of (came last) used }
 {

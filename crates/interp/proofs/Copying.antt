@@ -33,9 +33,6 @@ chunk d bs row n h e f =
     ap (take (n - 0)) f ∙ ap (λ x. take x (over d 0 bs)) k ∙ ap (take (length bs)) (ap (paste d 0 bs) m ∙ paste_all d 0 bs (length bs) refl)
     ∙ take-append_seam bs (drop (0 + length bs) d)
 
-pub window_most : (f n : ℕ) (ws : List ℕ) → length (window f n ws) ≤ n
-window_most f n ws = simp length-take (omega arith)
-
 pub window_size : (m : List ℕ) (f n : ℕ) → length m ≡ 262144 → length (window f n (parts m).lines) ≡ min n (200704 - f)
 window_size m f n e =
     let l = lines_length m e in

@@ -87,10 +87,6 @@ compared c p r v w b e f h =
     sym (settled_truth (replaced_two p r) (λ t. says t p r) b nothing_done)
     ∙ ap (settled (replaced_two p r) (λ t. says t p r)) (h nothing_done ∙ ap (λ x. reckon (operator c) (worth_in p x) (worth_in p w) nothing_done) e ∙ ap (λ x. reckon (operator c) (worth_in p (under_of p r)) (worth_in p x) nothing_done) f)
 
--- a number as what is compared
-pub worth_number : {T : Type 0} (b : T → List ℕ) (o : Operand T) (m n : ℤ) → o ≡ Operand.Number m → m ≡ n → worth b o ≡ number n
-worth_number b o m n e f = ap (worth b) e ∙ ap number f
-
 pub compares : (c : Comparison) (b : Bool) (v v₁ w w₁ : Text.Value) → ((s : State) → got (truth b) s ≡ reckon (operator c) v w s) → v ≡ v₁ → w ≡ w₁ → Compares c b v₁ w₁
 unfolding Compares
 compares c b v v₁ w w₁ h e f s = h s ∙ ap (λ x. reckon (operator c) x w s) e ∙ ap (λ x. reckon (operator c) v₁ x s) f

@@ -1,3 +1,4 @@
+mod Conditions
 mod Copying
 mod Figures
 mod Joining

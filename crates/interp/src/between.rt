@@ -2,7 +2,7 @@
 ghost use Rattle.std.specs.Prelude.{◌≡◌, length};
 ghost use Rattle.regions.specs.Parts.{parts};
 ghost use Rattle.interp.specs.Outcomes.{came};
-ghost use Rattle.interp.specs.Turns.{Did};
+ghost use Rattle.interp.specs.Turns.{says};
 ghost use Rattle.interp.specs.Between.{started_regs, started_turn, closing, waited_regs, waited_turn, last_taken, line_sought, line_next};
 
 use crate::registers::{Registers, Stage};
@@ -17,6 +17,7 @@ use regions::fields::{FIELDS, Place};
 const LONGEST: usize = 65_535;
 
 // A line was found: its rules are next, if it is not too long and its fields have room.
+#[tactic(auto, unfolding(crate::specs::Between::started_regs, crate::specs::Between::started_turn))]
 fn start_line(regs: &mut Registers, input: Input, line: Line) -> Result<Turn, Refusal>
     ensures regs { regs.new ≡ started_regs regs.old input line }
     ensures turn { came result ≡ started_turn line }
@@ -47,6 +48,7 @@ fn start_end(regs: &mut Registers, input: Input)
 }
 
 // Part of a line has come: nothing is to be done before there is more, unless it is too long already.
+#[tactic(auto, unfolding(crate::specs::Between::waited_regs, crate::specs::Between::waited_turn))]
 fn wait(regs: &mut Registers, input: Input) -> Result<Turn, Refusal>
     ensures regs { regs.new ≡ waited_regs regs.old input }
     ensures turn { came result ≡ waited_turn input }
@@ -63,8 +65,9 @@ fn wait(regs: &mut Registers, input: Input) -> Result<Turn, Refusal>
 }
 
 // The end was told: what waits is the last line, if there is something.
+#[tactic(auto, unfolding(crate::specs::Between::last_taken))]
 fn take_last(mem: &mut Memory, regs: &mut Registers, input: Input) -> Result<Turn, Refusal>
-    ensures { ◌≡◌ {A = Did} (record { mem = parts mem.exit.now; regs = regs.new; turn = came result }) (last_taken (parts mem.entry.now) regs.old input) }
+    ensures { says (came result) (parts mem.new) regs.new ≡ last_taken (parts mem.old) regs.old input }
 {
     let mut rest = input;
     match last_line(mem, &mut rest) {
@@ -77,8 +80,9 @@ fn take_last(mem: &mut Memory, regs: &mut Registers, input: Input) -> Result<Tur
 }
 
 // Looks for the next line. Where that is refused, the registers are as they were, so that it would be found again.
+#[tactic(auto, unfolding(crate::specs::Between::line_sought))]
 fn seek_line(mem: &mut Memory, regs: &mut Registers) -> Result<Turn, Refusal>
-    ensures { ◌≡◌ {A = Did} (record { mem = parts mem.exit.now; regs = regs.new; turn = came result }) (line_sought (parts mem.entry.now) regs.old) }
+    ensures { says (came result) (parts mem.new) regs.new ≡ line_sought (parts mem.old) regs.old }
 {
     let mut input = regs.input;
     match scan(mem, &mut input) {
@@ -89,8 +93,9 @@ fn seek_line(mem: &mut Memory, regs: &mut Registers) -> Result<Turn, Refusal>
 }
 
 // The next line with its rules, or the rules for the end, or the end of the run.
+#[tactic(auto, unfolding(crate::specs::Between::line_next))]
 pub fn next_line(mem: &mut Memory, regs: &mut Registers) -> Result<Turn, Refusal>
-    ensures { ◌≡◌ {A = Did} (record { mem = parts mem.exit.now; regs = regs.new; turn = came result }) (line_next (parts mem.entry.now) regs.old) }
+    ensures { says (came result) (parts mem.new) regs.new ≡ line_next (parts mem.old) regs.old }
 {
     match regs.stage {
         Stage::Begin | Stage::Lines => seek_line(mem, regs),

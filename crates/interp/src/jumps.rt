@@ -1,8 +1,9 @@
 // Conditions, jumps and ends.
 ghost use Rattle.std.specs.Prelude.{◌≡◌, length, Ok};
+ghost use Rattle.language.specs.Text.{pick};
 ghost use Rattle.regions.specs.Parts.{parts};
 ghost use Rattle.interp.specs.Outcomes.{came};
-ghost use Rattle.interp.specs.Turns.{Did, says};
+ghost use Rattle.interp.specs.Turns.{says};
 ghost use Rattle.interp.specs.Jumps.{judged, negated, jumped, taking, jumped_if, jumped_unless, between, exited};
 
 use crate::registers::Registers;
@@ -12,22 +13,13 @@ use crate::{Refusal, Turn};
 use regions::Memory;
 use values::fields::exit_number;
 
-// 1 if the top holds, otherwise 0.
-pub fn judge(mem: &mut Memory, regs: &mut Registers) -> Turn
-    ensures { ◌≡◌ {A = Did} (record { mem = parts mem.exit.now; regs = regs.new; turn = came (Ok result) }) (judged (parts mem.entry.now) regs.old) }
+// 1 if the top holds just if that is wanted, otherwise 0.
+pub fn judge<const WANTED: bool>(mem: &mut Memory, regs: &mut Registers) -> Turn
+    ensures { says (came (Ok result)) (parts mem.new) regs.new ≡ pick WANTED (judged (parts mem.old) regs.old) (negated (parts mem.old) regs.old) }
 {
     let v = top(mem, regs);
-    let b = holds_in(mem, v);
-    replace_top(mem, regs, truth(b))
-}
-
-// 0 if the top holds, otherwise 1.
-pub fn negate(mem: &mut Memory, regs: &mut Registers) -> Turn
-    ensures { ◌≡◌ {A = Did} (record { mem = parts mem.exit.now; regs = regs.new; turn = came (Ok result) }) (negated (parts mem.entry.now) regs.old) }
-{
-    let v = top(mem, regs);
-    let b = holds_in(mem, v);
-    replace_top(mem, regs, truth(!b))
+    let holds = holds_in(mem, v);
+    replace_top(mem, regs, truth(holds == WANTED))
 }
 
 pub fn jump(regs: &mut Registers, to: usize) -> Turn
@@ -39,8 +31,9 @@ pub fn jump(regs: &mut Registers, to: usize) -> Turn
 }
 
 // Takes the top; if it is to jump, goes there.
+#[tactic(auto, unfolding(crate::specs::Jumps::taking, crate::specs::Turns::dropped))]
 fn take_and_jump(mem: &mut Memory, regs: &mut Registers, goes: bool, to: usize) -> Turn
-    ensures { ◌≡◌ {A = Did} (record { mem = parts mem.exit.now; regs = regs.new; turn = came (Ok result) }) (taking (parts mem.entry.now) regs.old goes to) }
+    ensures { says (came (Ok result)) (parts mem.new) regs.new ≡ taking (parts mem.old) regs.old goes to }
 {
     let turn = drop_top(mem, regs);
     if goes {
@@ -49,22 +42,14 @@ fn take_and_jump(mem: &mut Memory, regs: &mut Registers, goes: bool, to: usize) 
     turn
 }
 
-// Takes the top, and goes there if it holds.
-pub fn jump_if(mem: &mut Memory, regs: &mut Registers, to: usize) -> Turn
-    ensures { ◌≡◌ {A = Did} (record { mem = parts mem.exit.now; regs = regs.new; turn = came (Ok result) }) (jumped_if (parts mem.entry.now) regs.old to) }
+// Takes the top, and goes there if it holds just if that is wanted. A const parameter, since as an argument it makes a loop that counts take 1.3 times
+// as long.
+pub fn jump_on<const WANTED: bool>(mem: &mut Memory, regs: &mut Registers, to: usize) -> Turn
+    ensures { says (came (Ok result)) (parts mem.new) regs.new ≡ pick WANTED (jumped_if (parts mem.old) regs.old to) (jumped_unless (parts mem.old) regs.old to) }
 {
     let v = top(mem, regs);
-    let b = holds_in(mem, v);
-    take_and_jump(mem, regs, b, to)
-}
-
-// Takes the top, and goes there unless it holds.
-pub fn jump_unless(mem: &mut Memory, regs: &mut Registers, to: usize) -> Turn
-    ensures { ◌≡◌ {A = Did} (record { mem = parts mem.exit.now; regs = regs.new; turn = came (Ok result) }) (jumped_unless (parts mem.entry.now) regs.old to) }
-{
-    let v = top(mem, regs);
-    let b = holds_in(mem, v);
-    take_and_jump(mem, regs, !b, to)
+    let holds = holds_in(mem, v);
+    take_and_jump(mem, regs, holds == WANTED, to)
 }
 
 // Out of the code: the rules for the line, or of the stage, are done. Nothing is on the stack there.

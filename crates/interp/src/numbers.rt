@@ -4,7 +4,7 @@ ghost use Rattle.values.specs.Numbers.{operation};
 ghost use Rattle.regions.specs.Parts.{parts};
 ghost use Rattle.store.specs.declared.cells.Value.TheVariants.{Number};
 ghost use Rattle.interp.specs.Outcomes.{came};
-ghost use Rattle.interp.specs.Turns.{Did, under_of, top_of};
+ghost use Rattle.interp.specs.Turns.{says, under_of, top_of};
 ghost use Rattle.interp.specs.Numbers.{refusal_of, figured, figured_one};
 
 use crate::registers::Registers;
@@ -27,55 +27,23 @@ impl From<Trouble> for Refusal {
     }
 }
 
-// A number from the two on top, which are numbers.
-fn reckon_numbers(
-    mem: &mut Memory,
-    regs: &mut Registers,
-    c: Arithmetic,
-    a: i64,
-    b: i64,
-) -> Result<Turn, Refusal>
-    requires { (Number a ≡ under_of (parts mem.old) regs.old) × (Number b ≡ top_of (parts mem.old) regs.old) }
-    ensures { ◌≡◌ {A = Did} (record { mem = parts mem.exit.now; regs = regs.new; turn = came result }) (figured (operation c) (parts mem.entry.now) regs.old) }
-{
-    let n = calculate(c, a, b)?;
-    Ok(cover_two(mem, regs, Value::Number(n)))
-}
-
-// A number from the two on top, which the caller has read.
-fn reckon_values(
-    mem: &mut Memory,
-    regs: &mut Registers,
-    c: Arithmetic,
-    first: Value,
-    second: Value,
-) -> Result<Turn, Refusal>
-    requires { (first ≡ under_of (parts mem.old) regs.old) × (second ≡ top_of (parts mem.old) regs.old) }
-    ensures { ◌≡◌ {A = Did} (record { mem = parts mem.exit.now; regs = regs.new; turn = came result }) (figured (operation c) (parts mem.entry.now) regs.old) }
-{
-    let m = number_in(mem, first);
-    let n = number_in(mem, second);
-    let got = calculate(c, m, n)?;
-    release_value(mem, second);
-    release_value(mem, first);
-    Ok(cover_two(mem, regs, Value::Number(got)))
-}
-
-// A number from the two on top, which mostly are numbers.
+// A number from the two on top.
 pub fn reckon(mem: &mut Memory, regs: &mut Registers, c: Arithmetic) -> Result<Turn, Refusal>
-    ensures { ◌≡◌ {A = Did} (record { mem = parts mem.exit.now; regs = regs.new; turn = came result }) (figured (operation c) (parts mem.entry.now) regs.old) }
+    ensures { says (came result) (parts mem.new) regs.new ≡ figured (operation c) (parts mem.old) regs.old }
 {
     let first = under(mem, regs);
     let second = top(mem, regs);
-    match (first, second) {
-        (Value::Number(a), Value::Number(b)) => reckon_numbers(mem, regs, c, a, b),
-        _ => reckon_values(mem, regs, c, first, second),
-    }
+    let a = number_in(mem, first);
+    let b = number_in(mem, second);
+    let n = calculate(c, a, b)?;
+    release_value(mem, second);
+    release_value(mem, first);
+    Ok(cover_two(mem, regs, Value::Number(n)))
 }
 
 // The opposite of the number on top.
 pub fn oppose(mem: &mut Memory, regs: &mut Registers) -> Result<Turn, Refusal>
-    ensures { ◌≡◌ {A = Did} (record { mem = parts mem.exit.now; regs = regs.new; turn = came result }) (figured_one 1 (parts mem.entry.now) regs.old) }
+    ensures { says (came result) (parts mem.new) regs.new ≡ figured_one 1 (parts mem.old) regs.old }
 {
     let v = top(mem, regs);
     let a = number_in(mem, v);

@@ -49,6 +49,7 @@ pub enum Op {
 // Opcodes are below this number, and the number that goes with one is so many times it.
 const OPCODES: u64 = 64;
 
+#[tactic(auto, unfolding(crate::specs::Ops::one_of))]
 fn on_one(k: u64) -> Op
     ensures { result ≡ one_of k }
 {
@@ -59,6 +60,7 @@ fn on_one(k: u64) -> Op
     }
 }
 
+#[tactic(auto, unfolding(crate::specs::Ops::two_of))]
 fn on_two(k: u64) -> Op
     ensures { result ≡ two_of k }
 {
@@ -80,29 +82,32 @@ fn on_two(k: u64) -> Op
 }
 
 // The operation of a word; behind the last opcode all are the end.
-pub fn decode(word: u64) -> Op
-    ensures { result ≡ op_in (op_of word) }
-{
-    let n = word / OPCODES;
-    match word % OPCODES {
-        0 => Op::Load(n as usize),
-        1 => Op::Save(n as usize),
-        2 => Op::LineCount,
-        3 => Op::FieldCount,
-        4 => Op::GetField,
-        5 => Op::SetField,
-        6 => on_one(n),
-        7 => on_two(n),
-        8 => Op::Truth,
-        9 => Op::Fail(n),
-        10 => Op::Jump(n as usize),
-        11 => Op::JumpIf(n as usize),
-        12 => Op::JumpUnless(n as usize),
-        13 => Op::Drop,
-        14 => Op::PrintLine,
-        15 => Op::PrintValues(n as usize),
-        16 => Op::LeaveLine,
-        17 => Op::Exit,
-        _ => Op::End,
+impl From<u64> for Op {
+    ghost from_gives = { λ word op. op ≡ op_in (op_of word) };
+
+    #[tactic(auto, unfolding(assembly::specs::Assembly::op_of, assembly::specs::Assembly::decoded))]
+    fn from(word: u64) -> Op {
+        let n = word / OPCODES;
+        match word % OPCODES {
+            0 => Op::Load(n as usize),
+            1 => Op::Save(n as usize),
+            2 => Op::LineCount,
+            3 => Op::FieldCount,
+            4 => Op::GetField,
+            5 => Op::SetField,
+            6 => on_one(n),
+            7 => on_two(n),
+            8 => Op::Truth,
+            9 => Op::Fail(n),
+            10 => Op::Jump(n as usize),
+            11 => Op::JumpIf(n as usize),
+            12 => Op::JumpUnless(n as usize),
+            13 => Op::Drop,
+            14 => Op::PrintLine,
+            15 => Op::PrintValues(n as usize),
+            16 => Op::LeaveLine,
+            17 => Op::Exit,
+            _ => Op::End,
+        }
     }
 }

@@ -46,21 +46,25 @@ pub struct Registers {
     pub used: usize,
 }
 
-// How many words the registers take, and how many there are for them.
+// How many words the registers take, and how many there are for them. Registers are told from words, and back, place by place: that is memory's format.
 const ROW: usize = 18;
 
 const WORDS: usize = 64;
 
-fn stage_of(n: u64) -> Stage
-    ensures { result ≡ stage_of n }
-{
-    match n {
-        0 => Stage::Begin,
-        1 => Stage::Lines,
-        _ => Stage::End,
+impl From<u64> for Stage {
+    ghost from_gives = { λ n stage. stage ≡ stage_of n };
+
+    #[tactic(auto, unfolding(crate::specs::Registers::stage_of))]
+    fn from(n: u64) -> Stage {
+        match n {
+            0 => Stage::Begin,
+            1 => Stage::Lines,
+            _ => Stage::End,
+        }
     }
 }
 
+#[tactic(auto, unfolding(crate::specs::Registers::line_in))]
 fn line_in(words: &[u64]) -> Line
     requires { length words.now ≡ 64 }
     ensures { result ≡ line_in words.now }
@@ -74,6 +78,7 @@ fn line_in(words: &[u64]) -> Line
     }
 }
 
+#[tactic(auto, unfolding(crate::specs::Registers::input_in))]
 fn input_in(words: &[u64]) -> Input
     requires { length words.now ≡ 64 }
     ensures { result ≡ input_in words.now }
@@ -90,6 +95,7 @@ fn input_in(words: &[u64]) -> Input
     }
 }
 
+#[tactic(auto, unfolding(crate::specs::Registers::print_in))]
 fn print_in(words: &[u64]) -> Print
     requires { length words.now ≡ 64 }
     ensures { result ≡ print_in words.now }
@@ -100,6 +106,7 @@ fn print_in(words: &[u64]) -> Print
     }
 }
 
+#[tactic(auto, unfolding(crate::specs::Registers::registers_in))]
 fn registers_in(words: &[u64]) -> Registers
     requires { length words.now ≡ 64 }
     ensures { result ≡ registers_in words.now }
@@ -108,7 +115,7 @@ fn registers_in(words: &[u64]) -> Registers
         pc: words[0] as usize,
         depth: words[1] as usize,
         running: words[2] != 0,
-        stage: stage_of(words[3]),
+        stage: Stage::from(words[3]),
         count: words[4],
         line: line_in(words),
         input: input_in(words),
@@ -120,12 +127,14 @@ fn registers_in(words: &[u64]) -> Registers
 }
 
 // The registers, as memory has them when a step begins.
+#[tactic(auto, unfolding(regions::specs::Parts::parts))]
 pub fn load_registers(mem: &Memory) -> Registers
     ensures { result ≡ registers_in (parts mem.now).registers }
 {
     registers_in(&mem[0..WORDS])
 }
 
+#[tactic(auto, unfolding(crate::specs::Registers::row_of))]
 fn row_of(regs: Registers) -> [u64; ROW]
     ensures { result ≡ row_of regs }
 {

@@ -4,7 +4,7 @@ ghost use Rattle.store.specs.Words.{bytes_of, window};
 ghost use Rattle.store.specs.Space.{written};
 ghost use Rattle.regions.specs.Parts.{parts, with_texts};
 ghost use Rattle.interp.specs.Outcomes.{came};
-ghost use Rattle.interp.specs.Turns.{Did};
+ghost use Rattle.interp.specs.Turns.{says};
 ghost use Rattle.interp.specs.Texts.{text_in, joined_long, joined};
 
 use crate::registers::Registers;
@@ -25,6 +25,7 @@ use store::texts::Handle;
 const LONGEST: usize = 65_535;
 
 // How many bytes the text of a value has.
+#[tactic(auto, unfolding(language::specs::Text::as_text))]
 pub fn text_len(mem: &Memory, v: Value) -> usize
     ensures { result ≡ length (text_in (parts mem.now) v) }
 {
@@ -51,6 +52,7 @@ pub fn short_packed(t: Packed) -> Short
 }
 
 // The text of a value, where it has up to eight bytes.
+#[tactic(auto, unfolding(language::specs::Text::as_text))]
 fn as_short(mem: &Memory, v: Value) -> Short
     requires { length (text_in (parts mem.now) v) ≤ 8 }
     ensures { bytes_of result.len result.word ≡ text_in (parts mem.now) v }
@@ -78,6 +80,7 @@ fn join_shorts(a: Short, b: Short) -> Short
 }
 
 // The text of a value goes into a text, from byte `at` on.
+#[tactic(auto, unfolding(language::specs::Text::as_text, store::specs::Space::written, store::specs::Words::put_bytes))]
 fn put_text(mem: &mut Memory, h: Handle, at: usize, v: Value)
     ensures { parts mem.new ≡ with_texts (parts mem.old) (written 77822 (parts mem.old).texts h.index at (text_in (parts mem.old) v)) }
 {
@@ -91,7 +94,7 @@ fn put_text(mem: &mut Memory, h: Handle, at: usize, v: Value)
 
 // A new text of so many bytes comes in place of the two on top, of which the first has m bytes.
 fn join_long(mem: &mut Memory, regs: &mut Registers, m: usize, size: usize) -> Result<Turn, Refusal>
-    ensures { ◌≡◌ {A = Did} (record { mem = parts mem.exit.now; regs = regs.new; turn = came result }) (joined_long (parts mem.entry.now) regs.old m size) }
+    ensures { says (came result) (parts mem.new) regs.new ≡ joined_long (parts mem.old) regs.old m size }
 {
     let first = under(mem, regs);
     let second = top(mem, regs);
@@ -107,7 +110,7 @@ fn join_long(mem: &mut Memory, regs: &mut Registers, m: usize, size: usize) -> R
 
 // The texts of the two on top become one.
 pub fn join(mem: &mut Memory, regs: &mut Registers) -> Result<Turn, Refusal>
-    ensures { ◌≡◌ {A = Did} (record { mem = parts mem.exit.now; regs = regs.new; turn = came result }) (joined (parts mem.entry.now) regs.old) }
+    ensures { says (came result) (parts mem.new) regs.new ≡ joined (parts mem.old) regs.old }
 {
     let first = under(mem, regs);
     let second = top(mem, regs);

@@ -14,6 +14,7 @@ use values::compare::{number_holds, text_holds};
 use values::texts::number_of;
 
 // The number that a value is taken as.
+#[tactic(auto, unfolding(language::specs::Text::number_of, language::specs::Text::signed, language::specs::Text::no_blanks))]
 pub fn number_in(mem: &Memory, v: Value) -> i64
     ensures { number result ≡ number_of (worth_in (parts mem.now) v) }
 {
@@ -26,6 +27,7 @@ pub fn number_in(mem: &Memory, v: Value) -> i64
 }
 
 // Whether a value counts as true.
+#[tactic(auto, unfolding(language::specs::Text::holds))]
 pub fn holds_in(mem: &Memory, v: Value) -> bool
     ensures { result ≡ holds (worth_in (parts mem.now) v) }
 {
@@ -38,6 +40,7 @@ pub fn holds_in(mem: &Memory, v: Value) -> bool
 }
 
 // The short text without bytes, as what is not set is taken.
+#[tactic(auto, unfolding(store::specs::Words::bytes_of))]
 pub fn no_bytes() -> Short
     ensures { bytes_of result.len result.word ≡ [] }
 {
@@ -48,5 +51,5 @@ pub fn no_bytes() -> Short
 pub fn truth(b: bool) -> Value
     ensures { result ≡ truth_of b }
 {
-    Value::Number(if b { 1 } else { 0 })
+    Value::Number(i64::from(b))
 }

@@ -24,11 +24,6 @@ loop-at-preserved c =
     let l = ap length c.text_view.ensures in
     laid_more _ _ _ c.args.h.index c.args.to c.loop-at.at c.loop-at.invariant c.lay_chunk.ensures (omega arith)
 
-pub returns : goal.returns
-returns c =
-    let l = ap length c.text_view.ensures in
-    c.loop-at.invariant ∙ all_laid (parts c.args.mem.now) c.args.h.index c.args.to c.loop-at.at (omega arith)
-
 pub returns-2 : goal.returns-2
 returns-2 c =
     let l = ap length c.text_view.ensures in

@@ -13,15 +13,15 @@ returns-in-Some-Some c =
     let k = seen (parts c.args.mem.now) c.top-second.result c.in-Some-Some.n c.in-Some-Some.ensures' in
     let e : to_z w64 (of_z w64 c.in-Some-Some.m) ≡ c.in-Some-Some.m = search rules in
     let f : to_z w64 (of_z w64 c.in-Some-Some.n) ≡ c.in-Some-Some.n = search rules in
-    let b : Compares c.args.c c.compare_numbers-b.result (number c.in-Some-Some.m) (number c.in-Some-Some.n) =
-    subst (λ x. Compares c.args.c c.compare_numbers-b.result (number c.in-Some-Some.m) (number x)) f
-    (subst (λ x. Compares c.args.c c.compare_numbers-b.result (number x) (number (to_z w64 (of_z w64 c.in-Some-Some.n)))) e c.compare_numbers-b.ensures) in
+    let b : Compares c.args.c c.compare_with_number-b.result (number c.in-Some-Some.m) (number c.in-Some-Some.n) =
+    subst (λ x. Compares c.args.c c.compare_with_number-b.result (number c.in-Some-Some.m) (number x)) f
+    (subst (λ x. Compares c.args.c c.compare_with_number-b.result (number x) (number (to_z w64 (of_z w64 c.in-Some-Some.n)))) e c.compare_with_number-b.ensures) in
     c.cover_two.ensures
     ∙ covered (parts c.args.mem.now) c.args.regs.now c.under-first.result c.top-second.result c.truth.result c.under-first.ensures c.top-second.ensures h.loose k.loose
     ∙ ap (replaced_two (parts c.args.mem.now) c.args.regs.now) c.truth.ensures
-    ∙ compared c.args.c (parts c.args.mem.now) c.args.regs.now c.under-first.result c.top-second.result c.compare_numbers-b.result
+    ∙ compared c.args.c (parts c.args.mem.now) c.args.regs.now c.under-first.result c.top-second.result c.compare_with_number-b.result
     c.under-first.ensures c.top-second.ensures
-    (compares_seen c.args.c c.compare_numbers-b.result (parts c.args.mem.now) c.under-first.result c.top-second.result c.in-Some-Some.m c.in-Some-Some.n h k b)
+    (compares_seen c.args.c c.compare_with_number-b.result (parts c.args.mem.now) c.under-first.result c.top-second.result c.in-Some-Some.m c.in-Some-Some.n h k b)
 
 pub returns-in_default : goal.returns-in_default
 returns-in_default c =

@@ -18,6 +18,3 @@ pub returns : goal.returns
 returns c =
     let l : c.args.t.len ≤ 8 = omega (arith, length_window c.args.t.from c.args.t.len c.args.t.words.now c.args.t.inside, c.requires) in
     ap (bytes_of c.args.t.len) c.low_bytes.ensures ∙ read_at c.args.t.len c.word_at.result c.args.t.from c.args.t.words.now l c.word_at.ensures
-
-pub returns-then-t : goal.returns-then-t
-returns-then-t c = c.short_of.ensures.bytes ∙ take_all 8 _ c.requires

@@ -1,11 +1,13 @@
-use Rattle.std.proofs.Common.{rules}
+use Rattle.std.proofs.Common.{◌≡◌, Bool, true, false, pos, refl, w64, to_z, of_z}
+use Rattle.std.specs.Int.{from_bool}
+use Rattle.store.specs.declared.cells.Value.TheVariants.{Number}
 use Rattle.interp.specs.Turns.{truth_of}
 use Rattle.interp.proofs.worth.truth.Goals as goal
 
-pub returns-then-b : goal.returns-then-b
+as_truth : (b : Bool) → Number (to_z w64 (of_z w64 (pos (from_bool b)))) ≡ truth_of b
 unfolding truth_of
-returns-then-b c = search rules
+as_truth true = refl
+as_truth false = refl
 
-pub returns-else-b : goal.returns-else-b
-unfolding truth_of
-returns-else-b c = search rules
+pub returns : goal.returns
+returns c = rw c.from.ensures (as_truth c.args.b)
