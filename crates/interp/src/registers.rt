@@ -65,8 +65,7 @@ impl From<u64> for Stage {
 }
 
 #[tactic(auto, unfolding(crate::specs::Registers::line_in))]
-fn line_in(words: &[u64]) -> Line
-    requires { length words.now ≡ 64 }
+fn line_in(words: &[u64; WORDS]) -> Line
     ensures { result ≡ line_in words.now }
 {
     Line {
@@ -79,8 +78,7 @@ fn line_in(words: &[u64]) -> Line
 }
 
 #[tactic(auto, unfolding(crate::specs::Registers::input_in))]
-fn input_in(words: &[u64]) -> Input
-    requires { length words.now ≡ 64 }
+fn input_in(words: &[u64; WORDS]) -> Input
     ensures { result ≡ input_in words.now }
 {
     Input {
@@ -96,8 +94,7 @@ fn input_in(words: &[u64]) -> Input
 }
 
 #[tactic(auto, unfolding(crate::specs::Registers::print_in))]
-fn print_in(words: &[u64]) -> Print
-    requires { length words.now ≡ 64 }
+fn print_in(words: &[u64; WORDS]) -> Print
     ensures { result ≡ print_in words.now }
 {
     Print {
@@ -107,8 +104,7 @@ fn print_in(words: &[u64]) -> Print
 }
 
 #[tactic(auto, unfolding(crate::specs::Registers::registers_in))]
-fn registers_in(words: &[u64]) -> Registers
-    requires { length words.now ≡ 64 }
+fn registers_in(words: &[u64; WORDS]) -> Registers
     ensures { result ≡ registers_in words.now }
 {
     Registers {
@@ -131,7 +127,7 @@ fn registers_in(words: &[u64]) -> Registers
 pub fn load_registers(mem: &Memory) -> Registers
     ensures { result ≡ registers_in (parts mem.now).registers }
 {
-    registers_in(&mem[0..WORDS])
+    registers_in(mem.first_chunk().unwrap())
 }
 
 #[tactic(auto, unfolding(crate::specs::Registers::row_of))]
@@ -160,8 +156,8 @@ fn row_of(regs: Registers) -> [u64; ROW]
     ]
 }
 
-fn save_row(words: &mut [u64], row: &[u64])
-    requires { (length words.old ≡ 64) × (length row.now ≡ 18) }
+fn save_row(words: &mut [u64], row: &[u64; ROW])
+    requires { length words.old ≡ 64 }
     ensures saved { words.new ≡ saved_row row.now words.old }
     ensures small { (i : ℕ) → slice_index words.new i < 2 ^ 64 }
 {
