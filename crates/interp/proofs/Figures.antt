@@ -1,5 +1,5 @@
 -- What an operator has as its result, from what arithmetic and comparing answer.
-use Rattle.std.proofs.Common.{◌≡◌, ℕ, Bool, true, false, List, ℤ, pos, negsuc, Some, None, Ok, Err, Option, Result, sym, refl, ap, ◌∙◌, IsErrAnd}
+use Rattle.std.proofs.Common.{◌≡◌, Bool, true, false, ℤ, pos, negsuc, Some, None, Ok, Err, Option, Result, sym, refl, ap, ◌∙◌, IsErrAnd}
 use Rattle.language.specs.Text
 use Rattle.language.specs.Text.{number_of, truth, within, opposite}
 use Rattle.language.specs.Meaning.{State, got, reckon, reckon_one, as_got}
@@ -8,8 +8,7 @@ use Rattle.values.specs.declared.numbers.Trouble.TheVariants.{ByZero, TooLarge}
 use Rattle.values.specs.declared.numbers.Arithmetic.{Arithmetic}
 use Rattle.values.specs.declared.compare.Comparison.{Comparison}
 use Rattle.values.specs.Numbers.{divided, judged, operation}
-use Rattle.values.specs.Compare.{operator, worth}
-use Rattle.values.specs.declared.compare.Operand.{Operand}
+use Rattle.values.specs.Compare.{operator}
 use Rattle.store.specs.Numbers.{number}
 use Rattle.store.specs.declared.cells.Value.{Value}
 use Rattle.store.specs.declared.cells.Value.TheVariants.{Number}

@@ -1,6 +1,5 @@
 use Rattle.std.proofs.Common.{◌≡◌, refl, ap, w64, to_z, of_z, rules}
 use Rattle.store.specs.Numbers.{number}
-use Rattle.interp.specs.Numbers.{Compares}
 use Rattle.interp.proofs.Figures.{compares}
 use Rattle.interp.proofs.comparing.compare_with_number.Goals as goal
 

@@ -1,4 +1,4 @@
-use Rattle.std.proofs.Common.{◌≡◌, ◌∙◌, ap, rules}
+use Rattle.std.proofs.Common.{rules}
 use Rattle.regions.specs.Parts.{parts}
 use Rattle.interp.specs.Turns.{replaced, truth_of}
 use Rattle.interp.specs.Jumps.{judged, negated}

@@ -1,4 +1,4 @@
-use Rattle.std.proofs.Common.{◌≡◌, ◌∙◌, ap, rules}
+use Rattle.std.proofs.Common.{rules}
 use Rattle.regions.specs.Parts.{parts}
 use Rattle.interp.specs.Jumps.{taking, jumped_if, jumped_unless}
 use Rattle.interp.proofs.Conditions.{as_wanted}

@@ -1,4 +1,4 @@
-use Rattle.std.proofs.Common.{ℕ, ◌^◌, ◌<◌, ◌≤◌, sym, ap, ◌∙◌, subst, mod-lt, arith, take_all}
+use Rattle.std.proofs.Common.{ℕ, ◌^◌, ◌<◌, ◌≤◌, sym, ap, ◌∙◌, subst, mod-lt, arith}
 use Rattle.store.specs.Words.{bytes_of}
 use Rattle.store.specs.Short.{pow_above}
 use Rattle.store.proofs.Moving.{length_window}
