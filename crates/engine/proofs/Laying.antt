@@ -1,9 +1,8 @@
 -- Texts that are laid into the region of lines, and lines that are made anew.
 use Rattle.std.proofs.Common.{◌≡◌, ℕ, ◌+◌, ◌-◌, ◌<◌, ◌≤◌, min, Bool, true, false, eqb, ltb, leb, List, [], ◌∷◌, length, get_or, take, drop, ℤ, Some, None, sym, refl, ap, ◌∙◌, inl, inr, arith, length-drop, length-take, length-take-le, take_all, take-add}
 use lib.Seq.{paste, take-paste}
-use Rattle.std.proofs.lemmas.List.{drop_all}
 use Rattle.std.proofs.lemmas.Bool.{cases_lt, eq-eqb, ne_eqb}
-use Rattle.language.specs.Text.{pick, or, number_of, as_text, fields_from}
+use Rattle.language.specs.Text.{pick, or, number_of, as_text}
 use Rattle.language.specs.Meaning.{field_number}
 use Rattle.store.specs.declared.cells.Value.{Value}
 use Rattle.store.specs.Numbers.{number}
