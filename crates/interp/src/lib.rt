@@ -1,4 +1,5 @@
-// One turn of the machine in its lent memory: an operation of the program's code, or what comes between two lines.
+// One turn of the machine in its lent memory: an operation of the program's code, or what comes between two lines. Memory and registers travel side by
+// side and in no struct: of a memory behind a field a proof doesn't know the length, and each method would have to promise that the loan stays the same.
 #![tactic(auto)]
 
 pub mod between;

@@ -17,7 +17,7 @@ pub enum Stage {
     End,
 }
 
-// A print that is not finished: how many values it has, and how many of its bytes are out.
+// A print that is not finished: how many values it has, and how many of its bytes are out; none, where these are 0, which is how memory keeps it.
 #[derive(Clone, Copy)]
 pub struct Print {
     pub values: usize,
@@ -30,7 +30,7 @@ pub struct Registers {
     pub pc: usize,
     // how many values are on the stack
     pub depth: usize,
-    // in the code, or between two runs through it
+    // in the code, or between two runs through it; pc is no Option of this, since each operation moves it without asking
     pub running: bool,
     pub stage: Stage,
     // how many lines there were

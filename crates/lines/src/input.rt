@@ -53,7 +53,8 @@ pub fn take_in(mem: &mut Memory, input: &mut Input, piece: &[u8])
     input.to = n + k;
 }
 
-// Goes on with the n bytes from byte `from` on, to the end of a line, which it says, or of the bytes.
+// Goes on with the n bytes from byte `from` on, to the end of a line, which it says, or of the bytes. How far it has come is kept in the cut till more has
+// come, and so the loop counts there.
 fn scan_on(mem: &mut Memory, from: usize, n: usize, cut: &mut Cut) -> bool
     requires { n ≤ 200704 - from }
     ensures noted { parts mem.new ≡ with_fields (parts mem.old) (scan_on (drop cut.old.at (window from n (parts mem.old).lines)) (cuts_of (parts mem.old).fields cut.old)).cuts.words }

@@ -1,4 +1,5 @@
-// The regions of cells: slots, which have variables and constants, and the stack.
+// The regions of cells: slots, which have variables and constants, and the stack. Each has a pair of functions of its own: one pair for both would need a
+// trait with two instances and their laws in place of four lines.
 ghost use Rattle.std.specs.Prelude.{◌≡◌, ℕ, length, slice_index_or};
 ghost use Rattle.store.specs.declared.cells.Value.TheVariants.{Unset};
 ghost use Rattle.store.specs.Values.{decoded, saved};

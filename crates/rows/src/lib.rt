@@ -25,7 +25,8 @@ use store::decimal::decimal_of;
 // How many bytes a row has.
 pub const ROW: usize = 4_096;
 
-// How far a print has come: how many of its bytes are out, how many bytes of the row are used, and whether that was all.
+// How far a print has come: how many of its bytes are out, how many bytes of the row are used, and whether that was all. No Option: the bytes that are
+// out are promised of a print that is finished, too.
 #[derive(Clone, Copy)]
 pub struct Printed {
     pub done: usize,

@@ -19,7 +19,7 @@ pub enum Value {
     Text(Handle),
 }
 
-// The kinds; a short text's is that of the empty one and its length.
+// The kinds, as numbers, since a cell of memory is two words; a short text's is that of the empty one and its length.
 const UNSET: u64 = 0;
 
 const NUMBER: u64 = 1;

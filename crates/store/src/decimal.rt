@@ -17,7 +17,7 @@ pub struct Decimal {
     ghost whole: { length row ≡ 20 },
 }
 
-// Writes the digits of n at the end of the row, and says where they begin.
+// Writes the digits of n at the end of the row, and says where they begin. The number itself ends the loop.
 fn put_digits(n: u64, row: &mut [u8; ROW]) -> usize
     requires { n < 10 ^ 19 }
     ensures inside { (1 ≤ result) × (result ≤ 20) }

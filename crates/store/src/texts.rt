@@ -10,8 +10,8 @@ use crate::bytes::Bytes;
 use crate::packed::{Packed, window_of};
 use crate::writing::{copy_in, move_bytes};
 
-// How many words the region has. It is lent as a slice, with its length required: of a part of an array that is lent as an array the proof of the
-// lender would not know what comes back.
+// How many words the region has. It is lent as a slice, with its length required: of a part of an array that is lent as an array the proof of the lender
+// would not know what comes back, and a struct that holds the loan would need a second one for what is only read.
 pub const TEXTS: usize = 98_304;
 // How many handles there are.
 const HANDLES: usize = 20_480;

@@ -21,7 +21,7 @@ fn stands_at<A: Bytes, B: Bytes>(a: &A, b: &B, from: usize) -> bool
     true
 }
 
-// Where b stands first in a, counted from 1; 0 if it doesn't.
+// Where b stands first in a, counted from 1; 0 if it doesn't, as the language's own function answers.
 pub fn place_of<A: Bytes, B: Bytes>(a: &A, b: &B) -> usize
     ensures { result ≡ place_of (A.Bytes.bytes a.now) (B.Bytes.bytes b.now) }
 {
