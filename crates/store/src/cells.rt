@@ -132,11 +132,13 @@ pub fn new_text<T: Bytes>(texts: &mut [u64], t: &T) -> Option<Value>
 }
 
 // Room for a new value, in words of the texts that are held.
+#[tactic(auto, using(crate::proofs::Meanings::makes_by_words))]
 pub fn value_word_laws_stand()
     ensures { (T W : ℕ) → MakesByWords T W }
 {}
 
 // The laws of values over a region of texts, whatever its size.
+#[tactic(auto, using(crate::proofs::Meanings::value_laws))]
 pub fn value_laws_stand()
     ensures { (T W : ℕ) → ValueLaws T W }
 {}

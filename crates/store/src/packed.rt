@@ -14,6 +14,7 @@ pub struct Packed<'a> {
 }
 
 // The len bytes from byte `from` on; fewer where the words end.
+#[tactic(auto, using(crate::proofs::Packing::window_cut))]
 pub fn window_of(words: &[u64], from: usize, len: usize) -> Packed<'_>
     ensures { window result.from result.len result.words.now ≡ window from len words.now }
 {

@@ -43,6 +43,7 @@ fn word(texts: &[u64], a: usize) -> usize
     }
 }
 
+#[tactic(auto, using(crate::proofs::Parts::heap_write, crate::proofs::Parts::heap_unwritten))]
 fn set_word(texts: &mut [u64], a: usize, v: usize)
     requires { length texts.old ≡ 98304 }
     ensures { region texts.new ≡ put_word (region texts.old) a v }
@@ -52,6 +53,7 @@ fn set_word(texts: &mut [u64], a: usize, v: usize)
     }
 }
 
+#[tactic(auto, using(crate::proofs::Parts::table_read, crate::proofs::Parts::table_past))]
 fn entry(texts: &[u64], h: usize) -> usize
     requires { length texts.now ≡ 98304 }
     ensures { result ≡ slice_index (region texts.now).table h }
@@ -63,6 +65,7 @@ fn entry(texts: &[u64], h: usize) -> usize
     }
 }
 
+#[tactic(auto, using(crate::proofs::Parts::table_write, crate::proofs::Parts::table_unwritten))]
 fn set_entry(texts: &mut [u64], h: usize, v: usize)
     requires { length texts.old ≡ 98304 }
     ensures { region texts.new ≡ put_entry (region texts.old) h v }
@@ -72,6 +75,7 @@ fn set_entry(texts: &mut [u64], h: usize, v: usize)
     }
 }
 
+#[tactic(auto, unfolding(crate::specs::Space::space))]
 fn top(texts: &[u64]) -> usize
     requires { length texts.now ≡ 98304 }
     ensures { result ≡ (region texts.now).top }
@@ -79,6 +83,7 @@ fn top(texts: &[u64]) -> usize
     texts[0] as usize
 }
 
+#[tactic(auto, using(crate::proofs::Parts::top_write))]
 fn set_top(texts: &mut [u64], v: usize)
     requires { length texts.old ≡ 98304 }
     ensures { region texts.new ≡ with_top (region texts.old) v }
@@ -86,6 +91,7 @@ fn set_top(texts: &mut [u64], v: usize)
     texts[0] = v as u64;
 }
 
+#[tactic(auto, unfolding(crate::specs::Space::space))]
 fn free(texts: &[u64]) -> usize
     requires { length texts.now ≡ 98304 }
     ensures { result ≡ (region texts.now).free }
@@ -93,6 +99,7 @@ fn free(texts: &[u64]) -> usize
     texts[1] as usize
 }
 
+#[tactic(auto, using(crate::proofs::Parts::free_write))]
 fn set_free(texts: &mut [u64], v: usize)
     requires { length texts.old ≡ 98304 }
     ensures { region texts.new ≡ with_free (region texts.old) v }
@@ -151,6 +158,7 @@ fn used(texts: &[u64]) -> usize
 }
 
 // Moves all blocks together.
+#[tactic(auto, unfolding(crate::specs::Space::compacted))]
 pub fn compact(texts: &mut [u64])
     requires { length texts.old ≡ 98304 }
     ensures { region texts.new ≡ compacted 20480 77822 (region texts.old) }
@@ -169,6 +177,7 @@ fn fits(texts: &[u64], n: usize) -> bool
 }
 
 // Lays a block of n bytes, with one holder, at the top, where it has room.
+#[tactic(auto, unfolding(crate::specs::Space::taken))]
 fn lay(texts: &mut [u64], h: usize, n: usize)
     requires { (length texts.old ≡ 98304) × ((h ≡ (region texts.old).free) × (span n ≤ 77822 - (region texts.old).top)) }
     ensures { region texts.new ≡ taken (region texts.old) n }
@@ -184,6 +193,7 @@ fn lay(texts: &mut [u64], h: usize, n: usize)
 }
 
 // A text of n bytes at the top, if there is a handle and room.
+#[tactic(auto, unfolding(crate::specs::Space::tried))]
 fn take_top(texts: &mut [u64], n: usize) -> Option<Handle>
     requires { length texts.old ≡ 98304 }
     ensures { ◌≡◌ {A = Given} (record { space = region texts.new; handle = result }) (tried 20480 77822 (region texts.old) n) }
@@ -198,6 +208,7 @@ fn take_top(texts: &mut [u64], n: usize) -> Option<Handle>
 }
 
 // A text of n bytes, with one holder; or none, if there is no room.
+#[tactic(auto, unfolding(crate::specs::Space::allocated))]
 pub fn allocate(texts: &mut [u64], n: usize) -> Option<Handle>
     requires { length texts.old ≡ 98304 }
     ensures { ◌≡◌ {A = Given} (record { space = region texts.new; handle = result }) (allocated 20480 77822 (region texts.old) n) }
@@ -209,6 +220,7 @@ pub fn allocate(texts: &mut [u64], n: usize) -> Option<Handle>
 }
 
 // One holder more.
+#[tactic(auto, unfolding(crate::specs::Space::raised))]
 pub fn hold(texts: &mut [u64], h: Handle)
     requires { length texts.old ≡ 98304 }
     ensures { region texts.new ≡ raised 77822 (region texts.old) h.index }
@@ -219,6 +231,7 @@ pub fn hold(texts: &mut [u64], h: Handle)
 }
 
 // One holder less; a text without holders is given back.
+#[tactic(auto, unfolding(crate::specs::Space::lowered, crate::specs::Space::freed))]
 pub fn release(texts: &mut [u64], h: Handle)
     requires { length texts.old ≡ 98304 }
     ensures { region texts.new ≡ lowered 20480 77822 (region texts.old) h.index }
@@ -297,6 +310,7 @@ pub fn copy_text(texts: &mut [u64], h: Handle, at: usize, from: Handle)
 }
 
 // Room for a new text, in words of the texts that are held.
+#[tactic(auto, using(crate::proofs::Faces::new_by_words))]
 pub fn word_laws_stand()
     ensures { (T W : ℕ) → NewByWords T W }
 {}
