@@ -191,6 +191,7 @@ pub fn run(rt: &HostRuntime, called: Option<Command>, usage: &str) -> anyhow::Re
         return Ok(ExitCode::SUCCESS);
     };
     let ending = drive(&mut Console::new(rt, names), rt.alloc(), program.as_slice());
+    // Of this ending nothing is said, and the status is another.
     if ending == Ok(0) {
         return Ok(ExitCode::SUCCESS);
     }

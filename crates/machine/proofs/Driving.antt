@@ -7,7 +7,7 @@ use Rattle.language.specs.Text.{pick, or, none_of, every}
 use Rattle.language.specs.Run.{Engine, Event, started, bytes, no_more, next, Act, more, write, done, refused, first_piece, other_pieces, one_act, runs, run_of, ran, came, a_row}
 use Rattle.machine.specs.declared.Told.{Told}
 use Rattle.machine.specs.declared.Told.TheVariants.{More, Write, Done, No}
-use Rattle.machine.specs.Entry.{own, ActTold, StepSays, step_fits, event_of}
+use Rattle.machine.specs.Entry.{own, ActTold, TellSays, tell_fits}
 use Rattle.machine.specs.declared.drive.Failure.{Failure}
 use Rattle.machine.specs.declared.drive.Failure.TheVariants.{Refused, Broken, Endless}
 use Rattle.machine.specs.Drive.{Call, took, ended, showed, asks, obeyed, calls, shown, ShownIsWritten, Account, Chain, Going, Reached, EndedSo, done_end, refused_end}
@@ -18,13 +18,11 @@ chain_on {S} a s [] ds r q h k = rw h k
 chain_on {S} a s (c ∷ cs) ds r q h k = (h.0, h.1, chain_on a h.0 cs ds r q h.2 k)
 
 -- a step of the code that fits is one of the machine's
-step_did : (m : List ℕ) (k : ℕ) (p o : List ℕ) (r : Told) (m₁ o₁ : List ℕ) → length m ≡ 262144 → k ≤ 3 → length p ≤ 4096 → length o ≡ 4096 →
-    StepSays m k p o (step_fits m k p o) r m₁ o₁ →
-    (m₁ ≡ (own.step m (event_of k p)).memory) × ActTold (own.step m (event_of k p)).act r o o₁
-unfolding step_fits StepSays
-step_did m k p o r m₁ o₁ a b c d h =
-    let e : step_fits m k p o ≡ true =
-    rw (eq-eqb (length m) (length own.start) (a ∙ sym own_length), le-leb k 3 b, le-leb (length p) 4096 c, le-leb 4096 (length o) (omega arith)) in
+step_did : (m : List ℕ) (ev : Event) (p o : List ℕ) (r : Told) (m₁ o₁ : List ℕ) → length m ≡ 262144 → length p ≤ 4096 → length o ≡ 4096 →
+    TellSays m ev o (tell_fits m p o) r m₁ o₁ → (m₁ ≡ (own.step m ev).memory) × ActTold (own.step m ev).act r o o₁
+unfolding tell_fits TellSays
+step_did m ev p o r m₁ o₁ a b c h =
+    let e : tell_fits m p o ≡ true = rw (eq-eqb (length m) (length own.start) (a ∙ sym own_length), le-leb (length p) 4096 b, le-leb 4096 (length o) (omega arith)) in
     rw e at h
 
 module _ {S : Type 0} {a : Account S} {t : List ℕ} {w₀ : S} {over : Bool} {told : Told} {row m : List ℕ} {w : S} (G : Going a t w₀ over told row m w) where
@@ -108,34 +106,33 @@ within (write bs) n out row h = let e : n ≡ length bs = cc in omega (arith, le
 within (done k) n out row h = absurd (cc)
 within (refused k) n out row h = absurd (cc)
 
-module _ {S : Type 0} (a : Account S) (told₁ : Told) (row₁ m₁ : List ℕ) (row m q : List ℕ) (w : S)
-    (lm : length m ≡ 262144) (lr : length row ≡ 4096) (lq : length q ≤ 4096) where
+module _ {S : Type 0} (a : Account S) (told₁ : Told) (row₁ m₁ : List ℕ) (row m : List ℕ) (w : S) (lm : length m ≡ 262144) (lr : length row ≡ 4096) where
   -- it asks again, though there are no more
-  pub asks_again : StepSays m 2 q row (step_fits m 2 q row) told₁ m₁ row₁ →
+  pub asks_again : TellSays m no_more row (tell_fits m [] row) told₁ m₁ row₁ →
       (over : Bool) → over ≡ true → (t : List ℕ) (w₀ : S) → Going a t w₀ over More row m w → Going a t w₀ true told₁ row₁ m₁ w
-  unfolding event_of one_act
+  unfolding one_act
   asks_again h over e t w₀ G =
-      let d = step_did m 2 q row told₁ m₁ row₁ lm (omega arith) lq lr h in
+      let d = step_did m no_more [] row told₁ m₁ row₁ lm (omega arith) lr h in
       let i : G.act ≡ more = act_is G.act More G.lent row G.says in
       one_more G [] [] no_more true G.written true w refl (λ fu o f. o refl)
       (λ fu o go. rw (i, o refl, e)) (λ fu o go. rw (i, o refl)) told₁ row₁ m₁ d.0 d.1
 
   -- the world has no more
-  pub asks_none : (w₁ : S) → a.ends w w₁ → StepSays m 2 q row (step_fits m 2 q row) told₁ m₁ row₁ →
+  pub asks_none : (w₁ : S) → a.ends w w₁ → TellSays m no_more row (tell_fits m [] row) told₁ m₁ row₁ →
       (over : Bool) → over ≡ false → (t : List ℕ) (w₀ : S) → Going a t w₀ over More row m w → Going a t w₀ true told₁ row₁ m₁ w₁
-  unfolding event_of one_act
+  unfolding one_act
   asks_none w₁ l h over e t w₀ G =
-      let d = step_did m 2 q row told₁ m₁ row₁ lm (omega arith) lq lr h in
+      let d = step_did m no_more [] row told₁ m₁ row₁ lm (omega arith) lr h in
       let i : G.act ≡ more = act_is G.act More G.lent row G.says in
       one_more G (ended ∷ []) [] no_more true G.written true w₁ (w₁, l, refl) (λ fu o f. cc)
       (λ fu o go. rw (i, o refl, e)) (λ fu o go. rw (i, o refl)) told₁ row₁ m₁ d.0 d.1
 
   -- the world gives a piece
-  pub asks_piece : (w₁ : S) → a.takes w q w₁ → StepSays m 1 q row (step_fits m 1 q row) told₁ m₁ row₁ →
+  pub asks_piece : (q : List ℕ) → length q ≤ 4096 → (w₁ : S) → a.takes w q w₁ → TellSays m (bytes q) row (tell_fits m q row) told₁ m₁ row₁ →
       (over : Bool) → over ≡ false → (t : List ℕ) (w₀ : S) → Going a t w₀ over More row m w → Going a t w₀ over told₁ row₁ m₁ w₁
-  unfolding event_of one_act
-  asks_piece w₁ l h over e t w₀ G =
-      let d = step_did m 1 q row told₁ m₁ row₁ lm (omega arith) lq lr h in
+  unfolding one_act
+  asks_piece q lq w₁ l h over e t w₀ G =
+      let d = step_did m (bytes q) q row told₁ m₁ row₁ lm lq lr h in
       let i : G.act ≡ more = act_is G.act More G.lent row G.says in
       one_more G (took q ∷ []) (q ∷ []) (bytes q) over G.written true w₁ (w₁, l, refl) (λ fu o f. cc)
       (λ fu o go. rw (i, e)) (λ fu o go. rw i) told₁ row₁ m₁ d.0 d.1
@@ -151,21 +148,21 @@ row_fits n row l f = rw (le-leb (length (take n row)) 4096 (omega (arith, length
 
 -- the world shows what is written
 pub writes_row : {S : Type 0} (a : Account S) (told₁ : Told) (row₁ m₁ row m : List ℕ) (w w₁ : S) (n : ℕ) → length m ≡ 262144 → length row ≡ 4096 → a_row (take n row) ≡ true →
-    a.shows w (take n row) w₁ → StepSays m 3 [] row (step_fits m 3 [] row) told₁ m₁ row₁ →
+    a.shows w (take n row) w₁ → TellSays m next row (tell_fits m [] row) told₁ m₁ row₁ →
     (over : Bool) (t : List ℕ) (w₀ : S) → Going a t w₀ over (Write n) row m w → Going a t w₀ over told₁ row₁ m₁ w₁
-unfolding event_of one_act
+unfolding one_act
 writes_row a told₁ row₁ m₁ row m w w₁ n lm lr k l h over t w₀ G =
-    let d = step_did m 3 [] row told₁ m₁ row₁ lm (omega arith) (omega arith) lr h in
+    let d = step_did m next [] row told₁ m₁ row₁ lm (omega arith) lr h in
     let i : G.act ≡ write (take n row) = act_is G.act (Write n) G.lent row G.says in
     one_more G (showed (take n row) ∷ []) [] next over (G.written ++ take n row) false w₁ (w₁, l, refl) (λ fu o e. o e)
     (λ fu o go. rw (i, k)) (λ fu o go. rw (i, k)) told₁ row₁ m₁ d.0 d.1
 
 -- the machine was told its program, and nothing else happened yet
 pub starts : {S : Type 0} (a : Account S) (told : Told) (row₁ m₁ row m t : List ℕ) (w : S) → m ≡ own.start → length row ≡ 4096 → length t ≤ 4096 →
-    StepSays m 0 t row (step_fits m 0 t row) told m₁ row₁ → Going a t w false told row₁ m₁ w
-unfolding event_of calls runs
+    TellSays m (started t) row (tell_fits m t row) told m₁ row₁ → Going a t w false told row₁ m₁ w
+unfolding calls runs
 starts a told row₁ m₁ row m t w e lr lt h =
-    let d = step_did m 0 t row told m₁ row₁ (ap length e ∙ own_length) (omega arith) lt lr h in
+    let d = step_did m (started t) t row told m₁ row₁ (ap length e ∙ own_length) lt lr h in
     let i : m₁ ≡ (own.step own.start (started t)).memory = d.0 ∙ ap (λ x. (own.step x (started t)).memory) e in
     let P : List ℕ → Type 0 = λ x. ActTold (own.step x (started t)).act told row row₁ in
     record {

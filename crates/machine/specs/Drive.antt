@@ -5,6 +5,7 @@ use Rattle.language.specs.Text.{pick, or, none_of}
 use Rattle.language.specs.Run.{Engine, Event, started, next, Act, more, write, done, refused, first_piece, other_pieces, one_act, runs, run_of, a_row}
 use Rattle.machine.specs.declared.Told.{Told}
 use Rattle.machine.specs.Entry.{own, ActTold}
+use Rattle.machine.specs.declared.drive.Driver.{Driver}
 use Rattle.machine.specs.declared.drive.Failure.{Failure}
 use Rattle.machine.specs.declared.drive.Failure.TheVariants.{Refused, TooLong, Broken, Endless, NoMemory}
 
@@ -90,10 +91,18 @@ pub record Going {S : Type 0} (a : Account S) (t : List ℕ) (w₀ : S) (over : 
       runs (n + suc k) own own.start (started t) (ps ++ fu) [] 0 false ≡ one_act (λ m₁ ev₁ ps₁ w₁ g₁ a₁. runs k own m₁ ev₁ ps₁ w₁ g₁ a₁) fu written given m act
   pub says : ActTold act told lent row
 
+-- the run so far, beside the driver
+abbrev pub Drives : {S : Type 0} → Account S → (t : List ℕ) (w₀ : S) → Told → Driver S → Type 0
+Drives a t w₀ told d = Going a t w₀ d.over told d.row d.memory.now d.world.now
+
 -- one act more, unless the world failed
-abbrev pub GoesOn : {S E : Type 0} → Account S → Told → (over : Bool) (row m : List ℕ) → S → Result Told E → (over₁ : Bool) (row₁ m₁ : List ℕ) → S → Type 0
-GoesOn {S} a told over row m w (Err e) over₁ row₁ m₁ w₁ = Unit {0}
-GoesOn {S} a told over row m w (Ok told₁) over₁ row₁ m₁ w₁ = (t : List ℕ) (w₀ : S) → Going a t w₀ over told row m w → Going a t w₀ over₁ told₁ row₁ m₁ w₁
+abbrev pub GoesOn : {S E : Type 0} → Account S → Told → Driver S → Result Told E → Driver S → Type 0
+GoesOn {S} a told d (Err e) d₁ = Unit {0}
+GoesOn {S} a told d (Ok told₁) d₁ = (t : List ℕ) (w₀ : S) → Drives a t w₀ told d → Drives a t w₀ told₁ d₁
+
+-- the driver has the same world and the same memory as before, whatever is in them
+abbrev pub SameLoans : {S : Type 0} → Driver S → Driver S → Type 0
+SameLoans d d₁ = (d₁.world.ghost_name ≡ d.world.ghost_name) × (d₁.memory.ghost_name ≡ d.memory.ghost_name)
 
 -- the number of a run's end: as `run_of` has it
 abbrev pub done_end : ℕ → ℕ

@@ -1,11 +1,11 @@
 // The loop that drives the machine: it tells it what comes, and obeys its acts.
-ghost use Rattle.std.specs.Prelude.{◌≡◌, ℕ, ◌≤◌, Bool, false, true, List, length, take, Option};
+ghost use Rattle.std.specs.Prelude.{◌≡◌, ◌≤◌, false, true, length, take, Option};
 ghost use Rattle.machine.specs.declared.Told.TheVariants.{More, Write};
 ghost use Rattle.language.specs.Run.{a_row};
 ghost use Rattle.machine.specs.Entry.{own};
-ghost use Rattle.machine.specs.Drive.{Account, Gives, Shows, GoesOn, EndedSo, ShownIsWritten};
+ghost use Rattle.machine.specs.Drive.{Account, Gives, Shows, GoesOn, SameLoans, EndedSo, ShownIsWritten};
 
-use crate::{MEMORY, ROW, Told, step};
+use crate::{Event, MEMORY, ROW, Told, tell};
 use std::alloc::Global;
 
 // Why a run isn't done.
@@ -24,7 +24,8 @@ pub enum Failure<E> {
 }
 
 impl<E> From<E> for Failure<E> {
-    ghost use Rattle.machine.specs.declared.drive.Failure.TheVariants.{Broken};
+    // `Endless` is there for the edit that must fail: its error can't be let go, so only the promise can be turned.
+    ghost use Rattle.machine.specs.declared.drive.Failure.TheVariants.{Broken, Endless};
 
     ghost from_gives = { λ e f. f ≡ Broken e };
 
@@ -48,7 +49,7 @@ pub trait World {
         ensures { Shows account self.old result row.now self.new };
 }
 
-// So many bytes at the front of a row are a row, too.
+// So many bytes at the front of a row are a row, too. Lent as an array it would need no `few`, but then the proof isn't told that its numbers are bytes.
 fn front(row: &[u8], n: u64) -> &[u8]
     requires within { n ≤ length row.now }
     requires few { n ≤ 4096 }
@@ -72,9 +73,8 @@ struct Driver<'a, W> {
 impl<W: World> Driver<'_, W> {
     // The machine has asked for a piece: the world gives one, unless it has said that there are no more.
     fn ask(&mut self) -> Result<Told, W::Error>
-        ensures world { self.new.world.ghost_name ≡ self.old.world.ghost_name }
-        ensures memory { self.new.memory.ghost_name ≡ self.old.memory.ghost_name }
-        ensures goes_on { GoesOn W.World.account More self.old.over self.old.row self.old.memory.now self.old.world.now result self.new.over self.new.row self.new.memory.now self.new.world.now }
+        ensures same { SameLoans self.old self.new }
+        ensures goes_on { GoesOn W.World.account More self.old result self.new }
     {
         let Driver {
             world,
@@ -84,18 +84,17 @@ impl<W: World> Driver<'_, W> {
             over,
         } = self;
         if !*over && let Some(n) = world.piece(piece)? {
-            return Ok(step(*memory, 1, &piece[..n], row));
+            return Ok(tell(*memory, Event::Piece(&piece[..n]), row));
         }
         *over = true;
-        Ok(step(*memory, 2, &[], row))
+        Ok(tell(*memory, Event::NoMore, row))
     }
 
     // The machine writes so many bytes of the row: the world shows them, and the machine is told to go on.
     fn put(&mut self, n: u64) -> Result<Told, W::Error>
         requires { n ≤ length self.old.row }
-        ensures world { self.new.world.ghost_name ≡ self.old.world.ghost_name }
-        ensures memory { self.new.memory.ghost_name ≡ self.old.memory.ghost_name }
-        ensures goes_on { GoesOn W.World.account (Write n) self.old.over self.old.row self.old.memory.now self.old.world.now result self.new.over self.new.row self.new.memory.now self.new.world.now }
+        ensures same { SameLoans self.old self.new }
+        ensures goes_on { GoesOn W.World.account (Write n) self.old result self.new }
     {
         let Driver {
             world,
@@ -104,7 +103,7 @@ impl<W: World> Driver<'_, W> {
             ..
         } = self;
         world.show(front(row, n))?;
-        Ok(step(*memory, 3, &[], row))
+        Ok(tell(*memory, Event::Next, row))
     }
 
     // Drives the machine in a memory that is as at the start.
@@ -112,11 +111,11 @@ impl<W: World> Driver<'_, W> {
         requires start { self.old.memory.now ≡ own.start }
         requires fresh { self.old.over ≡ false }
         requires short { length program.now ≤ 4096 }
-        ensures world { self.new.world.ghost_name ≡ self.old.world.ghost_name }
+        ensures same { SameLoans self.old self.new }
         ensures ended { EndedSo W.World.account program.now self.old.world.now result self.new.world.now }
     {
         let Driver { memory, row, .. } = self;
-        let mut told = step(*memory, 0, program, row);
+        let mut told = tell(*memory, Event::Program(program), row);
         for _ in 0..u64::MAX {
             told = match told {
                 Told::More => self.ask()?,
@@ -141,7 +140,7 @@ pub fn drive<W: World>(
     if program.len() > ROW {
         return Err(Failure::TooLong);
     }
-    let Ok(mut memory) = Vec::from_elem(heap, 0u64, MEMORY) else {
+    let Ok(mut memory) = vec![in heap; 0u64; MEMORY] else {
         return Err(Failure::NoMemory);
     };
     let mut driver = Driver {

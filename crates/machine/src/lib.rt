@@ -3,7 +3,7 @@
 
 pub mod drive;
 
-ghost use Rattle.std.specs.Prelude.{◌≡◌, ◌≤◌, length};
+ghost use Rattle.std.specs.Prelude.{◌≡◌, length};
 ghost use Rattle.language.specs.Run.{Steady};
 ghost use Rattle.machine.specs.Entry.{own, act_number, told_number, StepSays, step_fits, TellSays, tell_fits, lengths_fit, MayTell, bytes_of, told_of};
 
@@ -22,7 +22,7 @@ pub enum Told {
     Write(u64),
     // The run is done, with this number.
     Done(u64),
-    // It refuses, for this reason.
+    // It refuses: 0 what doesn't fit, 1 what is no program, 2 what isn't known, and more, by the language's own numbers, which C gets as they are.
     No(u64),
 }
 

@@ -4,8 +4,8 @@ use Rattle.machine.proofs.drive.Driver.run.Goals as goal
 
 pub loop-init : goal.loop-init
 loop-init g c = record {
-  same_world = refl;
-  going = rw c.requires.fresh (starts g.W.World.account _ _ _ _ _ _ _ c.requires.start (omega arith) c.requires.short c.step-told.ensures.says);
+  same = (refl, refl);
+  going = rw c.requires.fresh (starts g.W.World.account _ _ _ _ _ _ _ c.requires.start (omega arith) c.requires.short c.tell-told.ensures);
 }
 
 pub put-requires : goal.put-requires
