@@ -149,7 +149,8 @@ impl From<Cell> for Frame {
     }
 }
 
-// Pushes a frame and goes on to an operand, behind so many tokens.
+// Pushes a frame and goes on to an operand, behind so many tokens. The length is promised besides the type: of an area behind a struct's `&mut`, lent anew or not, a
+// proof knows none after a call. The bounds are no types: a narrower one would ask more of callers.
 pub fn push(work: &mut Work, s: Spot, frame: Frame, eaten: usize) -> Turn
     requires depth { s.depth ≤ 4096 }
     requires place { s.place ≤ 4096 }

@@ -282,7 +282,8 @@ fn put(work: &mut Work, i: usize, c: Cell, plain: bool)
     );
 }
 
-// Writes a node of an expression; the flag says whether all of it is of the core.
+// Writes a node of an expression; the flag says whether all of it is of the core. The length is promised besides the type, as by `push`. That lists have functions of
+// their own is no plainer otherwise: what is written is said by two records, `Made` and `Listed`, for which one function would want a trait just for them.
 pub fn put_term(work: &mut Work, i: usize, node: TermNode, plain: bool)
     requires { i < 25600 }
     ensures made { Made work.old work.new i node plain }

@@ -12,7 +12,7 @@ unfolding FrameSays
 returns-then-not-is_sign-clause-pays c =
     let bs = c.args.self.now.text.now in
     let p = c.args.s.place in
-    let k = c.requires.ready.tokens in
+    let k = c.args.self.now.ready.tokens in
     end_fail bs c.args.self.now.work.now c.args.self.now.count c.args.s c.args.node SplitFirst c.requires.here (λ a t b x fs.
     sym (split_comma bs (fuel bs) fs a p (sym (c.if-not-is_sign.ensures bs k))) ∙ ap (λ h. resume (fuel bs) (h ∷ fs) a (toks bs p)) (sym x))
 
@@ -21,7 +21,7 @@ unfolding FrameSays
 returns-in_err-x-clause-pays c =
     let bs = c.args.self.now.text.now in
     let p = c.args.s.place in
-    let k = c.requires.ready.tokens in
+    let k = c.args.self.now.ready.tokens in
     rw c.from_residual.ensures (end_fail bs c.args.self.now.work.now c.args.self.now.count c.args.s c.args.node SplitFirst c.requires.here (λ a t b x fs.
     sym (split_name bs (fuel bs) fs a p (sym (c.if-not-is_sign.ensures bs k)) (c.in_err-x.ensures bs k)) ∙ ap (λ h. resume (fuel bs) (h ∷ fs) a (toks bs p)) (sym x)))
 
@@ -30,7 +30,7 @@ unfolding FrameSays
 returns-then-not-is_sign-2-clause-pays c =
     let bs = c.args.self.now.text.now in
     let p = c.args.s.place in
-    let k = c.requires.ready.tokens in
+    let k = c.args.self.now.ready.tokens in
     let v = c.in_ok-x.ensures bs k in
     let e : p + 1 + 1 ≡ p + 2 = omega arith in
     let n : name_of (toks bs (p + 1)) ≡ got v.0 (toks bs (p + 2)) = v.2 ∙ ap (λ i. got v.0 (toks bs i)) e in
@@ -42,7 +42,7 @@ unfolding FrameSays
 returns-in_err-q-clause-pays c =
     let bs = c.args.self.now.text.now in
     let p = c.args.s.place in
-    let k = c.requires.ready.tokens in
+    let k = c.args.self.now.ready.tokens in
     let v = c.in_ok-x.ensures bs k in
     let e : p + 1 + 1 ≡ p + 2 = omega arith in
     let n : name_of (toks bs (p + 1)) ≡ got v.0 (toks bs (p + 2)) = v.2 ∙ ap (λ i. got v.0 (toks bs i)) e in
@@ -57,7 +57,7 @@ returns-clause-pays c =
     let s = c.args.s in
     let p = s.place in
     let room = c.requires.room in
-    let k = c.requires.ready.tokens in
+    let k = c.args.self.now.ready.tokens in
     let t : sees 44 (toks bs p) ≡ true = sym (c.if-not-is_sign.ensures bs k) in
     let x = c.in_ok-x.ensures bs k in
     let q = c.in_ok-q.ensures in
