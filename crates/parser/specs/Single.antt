@@ -1,10 +1,10 @@
 -- That the tokens of a text are in an area has one proof at most, so a reader of expressions can carry it. Assumes nothing: what is stated is proved here.
 use Rattle.std.specs.Prelude.{◌≡◌, ℕ, zero, suc, Bool, List, []}
-use Rattle.std.specs.Coded.{Coded, Coded-set, code_by, coded×, coded_ℕ, coded_bool, coded_list, le_prop}
+use Rattle.std.specs.Coded.{Coded-set, code_by, coded×, coded_ℕ, coded_bool, coded_list, le_prop}
 use mathlib.Core.Path.{refl}
 use Rattle.language.specs.Program
 use Rattle.language.specs.Program.{word, number, quoted, sign, bad}
-use Rattle.lexer.specs.Marks.{TokenSays, TokensIn}
+use Rattle.lexer.specs.Marks.{TokenSays}
 use Rattle.lexer.specs.Places.{Ready}
 use Rattle.lexer.specs.declared.tokens.Token.{Token}
 use Rattle.lexer.specs.declared.tokens.Token.TheVariants.{Name as AName, Keyword as AKeyword, Number, Quoted, Sign, Bad}

@@ -1,4 +1,4 @@
-// Reads an expression by precedence, with a stack of its own.
+// Reads an expression by precedence, with a stack of its own: nothing here may recurse on the machine's stack, so a loop goes from turn to turn.
 ghost use Rattle.std.specs.Prelude.{◌≡◌, ℕ, suc, ◌+◌, ◌<◌, ◌≤◌, true, false, not, ◌&&◌, List, ◌∷◌, length, ◌==◌, nat_le};
 ghost use Rattle.language.specs.Program.{sign, word, rest, sees, w_swap};
 ghost use Rattle.lexer.specs.Memory.{cell};
@@ -109,7 +109,8 @@ pub fn both_plain(work: &Work, a: usize, b: usize) -> bool
     is_plain(work, a) && is_plain(work, b)
 }
 
-// What reads expressions: a text, the area in which its tokens are, and how many they are.
+// What reads expressions: a text, the area in which its tokens are, and how many they are. Where it stands is bounded at the methods that add to it: `Spot` and
+// `frame_at` are public, and an invariant or a narrower type would ask more of callers.
 #[derive(Drop)]
 struct Reader<'a> {
     text: &'a [u8],
@@ -123,7 +124,7 @@ impl<'a> Reader<'a> {
 
     // Whether this sign is there.
     fn is_sign(&self, place: usize, c: u8) -> bool
-        ensures { (bs : List ℕ) → TokensIn bs self.now.work.now self.now.count → result ≡ sees c (toks bs place) }
+        ensures { result ≡ sees c (toks self.now.text.now place) }
     {
         is_sign(self.work, self.count, place, c)
     }
@@ -386,7 +387,7 @@ impl<'a> Reader<'a> {
         requires low { 8448 ≤ s.nodes }
         requires nodes { s.nodes < 25600 }
         requires place { s.place ≤ 4096 }
-        ensures closes { (bs : List ℕ) → TokensIn bs self.old.work.now self.old.count → Closing self.old.work.now self.new.work.now s node false result (sees c (toks bs s.place)) }
+        ensures closes { Closing self.old.work.now self.new.work.now s node false result (sees c (toks self.old.text.now s.place)) }
         ensures same { Same self.old self.new }
     {
         if self.is_sign(s.place, c) {
@@ -400,7 +401,7 @@ impl<'a> Reader<'a> {
     fn part(&mut self, s: Spot, frame: Frame) -> Option<Turn>
         requires depth { s.depth ≤ 4096 }
         requires place { s.place ≤ 4096 }
-        ensures parts { (bs : List ℕ) → TokensIn bs self.old.work.now self.old.count → Parting self.old.work.now self.new.work.now s frame result (sees 44 (toks bs s.place)) }
+        ensures parts { Parting self.old.work.now self.new.work.now s frame result (sees 44 (toks self.old.text.now s.place)) }
         ensures same { Same self.old self.new }
     {
         if self.is_sign(s.place, b',') {

@@ -17,7 +17,7 @@ returns-then-is_sign-clause-pays c =
     let x = bytes_of bs c.args.x in
     let k = c.args.self.now.ready.tokens in
     let here = c.requires.here in
-    let t : sees 91 (toks bs (p + 1)) ≡ true = sym (c.if-is_sign.ensures bs k) in
+    let t : sees 91 (toks bs (p + 1)) ≡ true = sym c.if-is_sign.ensures in
     let a : p + 1 < c.args.self.now.count = sees_ahead bs c.args.self.now.work.now c.args.self.now.count (p + 1) 91 k t in
     begin_push bs c.args.self.now.work.now c.push.new.self.work.now c.args.self.now.count c.args.s c.requires.room _ 2 c.push.result c.push.ensures.pushed (omega arith) (omega arith) (in_item x)
     (x, record { inside = here.inside; is = refl }, refl)
@@ -31,8 +31,8 @@ returns-else-is_sign-2-clause-pays c =
     let x = bytes_of bs c.args.x in
     let k = c.args.self.now.ready.tokens in
     let here = c.requires.here in
-    let t : sees 91 (toks bs (p + 1)) ≡ false = sym (c.if-is_sign.ensures bs k) in
-    let u : sees 40 (toks bs (p + 1)) ≡ false = sym (c.if-is_sign-2.ensures bs k) in
+    let t : sees 91 (toks bs (p + 1)) ≡ false = sym c.if-is_sign.ensures in
+    let u : sees 40 (toks bs (p + 1)) ≡ false = sym c.if-is_sign-2.ensures in
     let a : p < c.args.self.now.count = ahead bs c.args.self.now.work.now c.args.self.now.count p (word x) (rest (toks bs p)) k here.is in
     begin_make bs c.args.self.now.work.now c.make.new.self.work.now c.args.self.now.count c.args.s c.requires.room _ true 1 c.make.result c.make.ensures.grown (omega arith) (omega arith) (var x)
     (made_var bs c.args.self.now.work.now c.make.new.self.work.now c.args.s.nodes c.requires.room.low c.args.x x (record { inside = here.inside; is = refl }) c.make.ensures.grown.made)

@@ -76,7 +76,7 @@ returns-in-Indexing-clause-pays c =
     let s = c.args.s in
     let w = c.close in
     let q = c.in-Indexing in
-    end_close bs m w.new.self.work.now c.args.self.now.count s c.args.node (Indexing q.x) c.args.self.now.ready.tokens c.requires.room (record { deep = omega arith; is = q.ensures }) _ 93 w.result (w.ensures.closes bs c.args.self.now.ready.tokens)
+    end_close bs m w.new.self.work.now c.args.self.now.count s c.args.node (Indexing q.x) c.args.self.now.ready.tokens c.requires.room (record { deep = omega arith; is = q.ensures }) _ 93 w.result w.ensures.closes
     (λ a t b x. (item x.0 a, made_item bs m w.new.self.work.now s.nodes c.requires.room.low q.x c.args.node x.0 a x.1 t, (λ fs. ap (λ h. resume (fuel bs) (h ∷ fs) a (toks bs s.place)) (sym x.2))))
 
 pub returns-in-Measuring-clause-pays : goal.returns-in-Measuring-clause-pays
@@ -87,7 +87,7 @@ returns-in-Measuring-clause-pays c =
     let s = c.args.s in
     let w = c.close-in-Measuring in
     let q = c.in-Measuring in
-    end_close bs m w.new.self.work.now c.args.self.now.count s c.args.node (Measuring q.p) c.args.self.now.ready.tokens c.requires.room (record { deep = omega arith; is = q.ensures }) _ 41 w.result (w.ensures.closes bs c.args.self.now.ready.tokens)
+    end_close bs m w.new.self.work.now c.args.self.now.count s c.args.node (Measuring q.p) c.args.self.now.ready.tokens c.requires.room (record { deep = omega arith; is = q.ensures }) _ 41 w.result w.ensures.closes
     (λ a t b x. (un (prefix_number q.p) a, made_un bs m w.new.self.work.now s.nodes c.requires.room.low q.p c.args.node false a (length_not_plain q.p a x.1) t, (λ fs. ap (λ h. resume (fuel bs) (h ∷ fs) a (toks bs s.place)) (sym x.0))))
 
 pub returns-in-IndexSecond-clause-pays : goal.returns-in-IndexSecond-clause-pays
@@ -98,7 +98,7 @@ returns-in-IndexSecond-clause-pays c =
     let s = c.args.s in
     let w = c.close-in-IndexSecond in
     let q = c.in-IndexSecond in
-    end_close bs m w.new.self.work.now c.args.self.now.count s c.args.node (IndexSecond q.a) c.args.self.now.ready.tokens c.requires.room (record { deep = omega arith; is = q.ensures }) _ 41 w.result (w.ensures.closes bs c.args.self.now.ready.tokens)
+    end_close bs m w.new.self.work.now c.args.self.now.count s c.args.node (IndexSecond q.a) c.args.self.now.ready.tokens c.requires.room (record { deep = omega arith; is = q.ensures }) _ 41 w.result w.ensures.closes
     (λ a t b x. (bin 12 x.0 a, made_bin bs m w.new.self.work.now s.nodes c.requires.room.low OIndex q.a c.args.node false x.0 a refl x.1 t, (λ fs. ap (λ h. resume (fuel bs) (h ∷ fs) a (toks bs s.place)) (sym x.2))))
 
 pub returns-in-PartThird-clause-pays : goal.returns-in-PartThird-clause-pays
@@ -109,7 +109,7 @@ returns-in-PartThird-clause-pays c =
     let s = c.args.s in
     let w = c.close-in-PartThird in
     let q = c.in-PartThird in
-    end_close bs m w.new.self.work.now c.args.self.now.count s c.args.node (PartThird q.a q.b) c.args.self.now.ready.tokens c.requires.room (record { deep = omega arith; is = q.ensures }) _ 41 w.result (w.ensures.closes bs c.args.self.now.ready.tokens)
+    end_close bs m w.new.self.work.now c.args.self.now.count s c.args.node (PartThird q.a q.b) c.args.self.now.ready.tokens c.requires.room (record { deep = omega arith; is = q.ensures }) _ 41 w.result w.ensures.closes
     (λ a t b x. (part x.0 x.1 a, made_part bs m w.new.self.work.now s.nodes c.requires.room.low q.a q.b c.args.node x.0 x.1 a x.2 x.3 t, (λ fs. ap (λ h. resume (fuel bs) (h ∷ fs) a (toks bs s.place)) (sym x.4))))
 
 pub returns-in-IndexFirst-clause-pays : goal.returns-in-IndexFirst-clause-pays
@@ -120,7 +120,7 @@ returns-in-IndexFirst-clause-pays c =
     let s = c.args.s in
     let w = c.part in
     let q = c.in-IndexFirst in
-    end_part bs m w.new.self.work.now c.args.self.now.count s c.args.node IndexFirst c.args.self.now.ready.tokens c.requires.room (record { deep = omega arith; is = q.ensures }) _ w.result (w.ensures.parts bs c.args.self.now.ready.tokens)
+    end_part bs m w.new.self.work.now c.args.self.now.count s c.args.node IndexFirst c.args.self.now.ready.tokens c.requires.room (record { deep = omega arith; is = q.ensures }) _ w.result w.ensures.parts
     (λ a t b x. (in_index_of a, (a, t, refl), (λ fs. ap (λ h. resume (fuel bs) (h ∷ fs) a (toks bs s.place)) (sym (x)))))
 
 pub returns-in-PartFirst-clause-pays : goal.returns-in-PartFirst-clause-pays
@@ -131,7 +131,7 @@ returns-in-PartFirst-clause-pays c =
     let s = c.args.s in
     let w = c.part-in-PartFirst in
     let q = c.in-PartFirst in
-    end_part bs m w.new.self.work.now c.args.self.now.count s c.args.node PartFirst c.args.self.now.ready.tokens c.requires.room (record { deep = omega arith; is = q.ensures }) _ w.result (w.ensures.parts bs c.args.self.now.ready.tokens)
+    end_part bs m w.new.self.work.now c.args.self.now.count s c.args.node PartFirst c.args.self.now.ready.tokens c.requires.room (record { deep = omega arith; is = q.ensures }) _ w.result w.ensures.parts
     (λ a t b x. (in_part_of a, (a, t, refl), (λ fs. ap (λ h. resume (fuel bs) (h ∷ fs) a (toks bs s.place)) (sym (x)))))
 
 pub returns-in-PartSecond-clause-pays : goal.returns-in-PartSecond-clause-pays
@@ -142,7 +142,7 @@ returns-in-PartSecond-clause-pays c =
     let s = c.args.s in
     let w = c.part-in-PartSecond in
     let q = c.in-PartSecond in
-    end_part bs m w.new.self.work.now c.args.self.now.count s c.args.node (PartSecond q.a) c.args.self.now.ready.tokens c.requires.room (record { deep = omega arith; is = q.ensures }) _ w.result (w.ensures.parts bs c.args.self.now.ready.tokens)
+    end_part bs m w.new.self.work.now c.args.self.now.count s c.args.node (PartSecond q.a) c.args.self.now.ready.tokens c.requires.room (record { deep = omega arith; is = q.ensures }) _ w.result w.ensures.parts
     (λ a t b x. (in_part_at x.0 a, (x.0, a, x.1, t, refl), (λ fs. ap (λ h. resume (fuel bs) (h ∷ fs) a (toks bs s.place)) (sym x.2))))
 
 pub returns-in-SwapFirst-clause-pays : goal.returns-in-SwapFirst-clause-pays
@@ -153,5 +153,5 @@ returns-in-SwapFirst-clause-pays c =
     let s = c.args.s in
     let w = c.part-in-SwapFirst in
     let q = c.in-SwapFirst in
-    end_part bs m w.new.self.work.now c.args.self.now.count s c.args.node (SwapFirst q.q) c.args.self.now.ready.tokens c.requires.room (record { deep = omega arith; is = q.ensures }) _ w.result (w.ensures.parts bs c.args.self.now.ready.tokens)
+    end_part bs m w.new.self.work.now c.args.self.now.count s c.args.node (SwapFirst q.q) c.args.self.now.ready.tokens c.requires.room (record { deep = omega arith; is = q.ensures }) _ w.result w.ensures.parts
     (λ a t b x. (in_swap_by x.0 a, (x.0, a, x.1, t, refl), (λ fs. ap (λ h. resume (fuel bs) (h ∷ fs) a (toks bs s.place)) (sym x.2))))

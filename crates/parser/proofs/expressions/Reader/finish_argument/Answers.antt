@@ -9,8 +9,7 @@ returns-then-is_sign-clause-pays c =
     let a = c.args in
     let w = c.put_list in
     let q = c.both_plain-plain in
-    let k = rw w.ensures.same.text at w.new.self.ready.tokens in
-    argument_more bs m w.new.self.work.now a.self.now.count a.s a.node a.x a.list q.result c.requires.room c.args.self.now.ready.tokens c.requires.here w.ensures.listed q.ensures c.push.new.self.work.now c.push.result (sym (c.if-is_sign.ensures bs k)) c.push.ensures.pushed
+    argument_more bs m w.new.self.work.now a.self.now.count a.s a.node a.x a.list q.result c.requires.room c.args.self.now.ready.tokens c.requires.here w.ensures.listed q.ensures c.push.new.self.work.now c.push.result (sym (rw w.ensures.same.text at c.if-is_sign.ensures)) c.push.ensures.pushed
 
 pub returns-else-is_sign-clause-pays : goal.returns-else-is_sign-clause-pays
 returns-else-is_sign-clause-pays c =
@@ -19,5 +18,4 @@ returns-else-is_sign-clause-pays c =
     let a = c.args in
     let w = c.put_list in
     let q = c.both_plain-plain in
-    let k = rw w.ensures.same.text at w.new.self.ready.tokens in
-    argument_last bs m w.new.self.work.now a.self.now.count a.s a.node a.x a.list q.result c.requires.room c.args.self.now.ready.tokens c.requires.here w.ensures.listed q.ensures c.close.new.self.work.now c.close.result (sym (c.if-is_sign.ensures bs k)) (c.close.ensures.closes bs k)
+    argument_last bs m w.new.self.work.now a.self.now.count a.s a.node a.x a.list q.result c.requires.room c.args.self.now.ready.tokens c.requires.here w.ensures.listed q.ensures c.close.new.self.work.now c.close.result (sym (rw w.ensures.same.text at c.if-is_sign.ensures)) (rw w.ensures.same.text at c.close.ensures.closes)
