@@ -310,7 +310,7 @@ fn quote_piece(text: &[u8], i: usize) -> Piece
     }
 }
 
-// The sign at a place of the text; those of two bytes have the numbers up to `UNLIKE`.
+// The sign at a place of the text. Those of two bytes have the numbers up to `UNLIKE`: a length beside the number would say the same once more.
 fn sign_piece(text: &[u8], i: usize) -> Piece
     requires inside { i < length text.now }
     requires class { class_of (slice_index text.now i) ≡ Other }
@@ -447,9 +447,5 @@ pub fn cut(text: &[u8], work: &mut Work) -> usize
 pub fn peek(work: &Work, count: usize, place: usize) -> Option<Token>
     ensures { (bs : List ℕ) → TokensIn bs work.now count → Seen bs result (drop place (cut_up bs)) }
 {
-    if place < count {
-        Some(Token::from(load(work, place)))
-    } else {
-        None
-    }
+    (place < count).then(|| Token::from(load(work, place)))
 }
