@@ -1,8 +1,8 @@
 // Reads an expression by precedence, with a stack of its own: nothing here may recurse on the machine's stack, so a loop goes from turn to turn.
-ghost use Rattle.std.specs.Prelude.{◌≡◌, ℕ, suc, ◌+◌, ◌<◌, ◌≤◌, true, false, not, ◌&&◌, List, ◌∷◌, length, ◌==◌, nat_le};
+ghost use Rattle.std.specs.Prelude.{◌≡◌, ℕ, suc, ◌+◌, ◌<◌, ◌≤◌, true, false, not, ◌&&◌, ◌∷◌, ◌==◌, nat_le};
 ghost use Rattle.language.specs.Program.{sign, word, rest, sees, w_swap};
 ghost use Rattle.lexer.specs.Memory.{cell};
-ghost use Rattle.lexer.specs.Marks.{spelled, TokensIn};
+ghost use Rattle.lexer.specs.Marks.{spelled};
 ghost use Rattle.parser.specs.Nodes.{operator_number, prefix_number, Made, Listed};
 ghost use Rattle.lexer.specs.Places.{toks, Ready};
 ghost use Rattle.parser.specs.Single.{Ready-prop};
