@@ -30,27 +30,27 @@ module _ (bs : List ℕ) (from : ℕ) (s : Scan) (c : Meant) (e : MeantIs bs s.a
   pub scan_open : c.byte ≡ 40 → Scans bs from (record { at = c.next; nested = s.nested + 1; marks = false })
   scan_open q =
       let m = at_byte 40 q refl in
-      record { begun = in_group m.0 ∷ x.begun; open_is = omega (arith, x.open_is); shorter = omega (arith, long, x.shorter); inside = e.2; means = opens (4 * length (from_on bs from) + 4) x.begun _ (from_on bs c.next) (omega (arith, long, x.shorter)) m }
+      record { begun = in_group m.0 ∷ x.begun; nested_is = omega (arith, x.nested_is); shorter = omega (arith, long, x.shorter); inside = e.2; means = opens (4 * length (from_on bs from) + 4) x.begun _ (from_on bs c.next) (omega (arith, long, x.shorter)) m }
 
   pub scan_bar : c.byte ≡ 124 → Scans bs from (record { at = c.next; nested = s.nested; marks = false })
   scan_bar q =
       let m = at_byte 124 q refl in
-      record { begun = in_either m.0 ∷ x.begun; open_is = x.open_is; shorter = omega (arith, long, x.shorter); inside = e.2; means = bars (4 * length (from_on bs from) + 4) x.begun _ (from_on bs c.next) (omega (arith, long, x.shorter)) m }
+      record { begun = in_either m.0 ∷ x.begun; nested_is = x.nested_is; shorter = omega (arith, long, x.shorter); inside = e.2; means = bars (4 * length (from_on bs from) + 4) x.begun _ (from_on bs c.next) (omega (arith, long, x.shorter)) m }
 
   pub scan_close : c.byte ≡ 41 → (s.nested ≡ 0 → ⊥) → Scans bs from (record { at = c.next; nested = s.nested - 1; marks = true })
   scan_close q n =
       let m = at_byte 41 q refl in
-      let k = closes (4 * length (from_on bs from) + 4) x.begun _ (s.nested - 1) (from_on bs c.next) (omega (arith, long, x.shorter)) (omega (arith, x.open_is)) m in
-      record { begun = k.begun; open_is = k.count; shorter = omega (arith, long, x.shorter); inside = e.2; means = k.means }
+      let k = closes (4 * length (from_on bs from) + 4) x.begun _ (s.nested - 1) (from_on bs c.next) (omega (arith, long, x.shorter)) (omega (arith, x.nested_is)) m in
+      record { begun = k.begun; nested_is = k.count; shorter = omega (arith, long, x.shorter); inside = e.2; means = k.means }
 
   pub scan_too_far : c.byte ≡ 41 → s.nested ≡ 0 → none_of (whole_pattern (pattern (4 * length (from_on bs from) + 4) (from_on bs from))) ≡ true
-  scan_too_far q n = never_opened (4 * length (from_on bs from) + 4) x.begun _ (from_on bs c.next) (omega (arith, long, x.shorter)) (x.open_is ∙ n) (at_byte 41 q refl)
+  scan_too_far q n = never_opened (4 * length (from_on bs from) + 4) x.begun _ (from_on bs c.next) (omega (arith, long, x.shorter)) (x.nested_is ∙ n) (at_byte 41 q refl)
 
   pub scan_mark : a_mark c.byte ≡ true → s.marks ≡ true → Scans bs from (record { at = c.next; nested = s.nested; marks = s.marks })
   scan_mark t q =
       record {
         begun = x.begun;
-        open_is = x.open_is;
+        nested_is = x.nested_is;
         shorter = omega (arith, long, x.shorter);
         inside = e.2;
         means = subst (λ b. Means (4 * length (from_on bs from) + 4) x.begun b (from_on bs c.next) (pattern (4 * length (from_on bs from) + 4) (from_on bs from))) (sym q) (marked (4 * length (from_on bs from) + 4) x.begun _ c.byte (from_on bs c.next) (omega (arith, long, x.shorter)) t
@@ -69,7 +69,7 @@ module _ (bs : List ℕ) (from : ℕ) (s : Scan) (c : Meant) (e : MeantIs bs s.a
   pub scan_atom : (r : ℕ) → a_mark c.byte ≡ false → or (eqb c.byte 124) (eqb c.byte 41) ≡ false → AtomSays bs c (Some r) → Scans bs from (record { at = r; nested = s.nested; marks = true })
   scan_atom r t u a =
       let p = a.3 (4 * length (from_on bs from) + 4) (omega (arith, long, x.shorter)) in
-      record { begun = x.begun; open_is = x.open_is; shorter = omega (arith, long, x.shorter, a.2); inside = a.1; means = atom_on (4 * length (from_on bs from) + 4) x.begun _ c.byte (from_on bs c.next) p.0 (from_on bs r) (omega (arith, long, x.shorter)) u p.1 (plainly t) }
+      record { begun = x.begun; nested_is = x.nested_is; shorter = omega (arith, long, x.shorter, a.2); inside = a.1; means = atom_on (4 * length (from_on bs from) + 4) x.begun _ c.byte (from_on bs c.next) p.0 (from_on bs r) (omega (arith, long, x.shorter)) u p.1 (plainly t) }
 
   pub scan_no_atom : a_mark c.byte ≡ false → or (eqb c.byte 124) (eqb c.byte 41) ≡ false → AtomSays bs c None → none_of (whole_pattern (pattern (4 * length (from_on bs from) + 4) (from_on bs from))) ≡ true
   scan_no_atom t u a =
@@ -104,7 +104,7 @@ is_inside c p q = rw (ne_eqb c 124 p, ne_eqb c 41 q) refl
 
 pub scan_start : (bs : List ℕ) (from : ℕ) → from ≤ length bs → Scans bs from (record { at = from; nested = 0; marks = false })
 scan_start bs from h =
-    record { begun = []; open_is = refl; shorter = omega arith; inside = h; means = (nothing, pattern_is (4 * length (from_on bs from) + 4) [] (from_on bs from) (omega arith) ∙ only (pattern (4 * length (from_on bs from) + 4) (from_on bs from))) }
+    record { begun = []; nested_is = refl; shorter = omega arith; inside = h; means = (nothing, pattern_is (4 * length (from_on bs from) + 4) [] (from_on bs from) (omega arith) ∙ only (pattern (4 * length (from_on bs from) + 4) (from_on bs from))) }
   where
     only : (g : Got ℕ Pattern) → with_got g (λ p es. got p es) ≡ g
     only none = refl
@@ -112,5 +112,5 @@ scan_start bs from h =
 
 pub scan_end : (bs : List ℕ) (from : ℕ) (s : Scan) → from_on bs s.at ≡ [] → Scans bs from s → eqb s.nested 0 ≡ not (none_of (whole_pattern (pattern (4 * length (from_on bs from) + 4) (from_on bs from))))
 scan_end bs from s e x =
-    ap (λ k. eqb k 0) (sym x.open_is)
+    ap (λ k. eqb k 0) (sym x.nested_is)
     ∙ at_the_end (4 * length (from_on bs from) + 4) x.begun _ s.marks (omega arith) (subst (λ l. Means (4 * length (from_on bs from) + 4) x.begun s.marks l (pattern (4 * length (from_on bs from) + 4) (from_on bs from))) e x.means)

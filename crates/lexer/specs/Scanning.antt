@@ -76,7 +76,7 @@ Means N fs true cs g = (p : Pattern) × (q : Pattern) × (marks_on N fs p q cs �
 -- how far a scan has come
 pub record Scans (bs : List ℕ) (from : ℕ) (s : Scan) : Type 0 where
   pub begun : List Begun
-  pub open_is : groups begun ≡ s.nested
+  pub nested_is : groups begun ≡ s.nested
   pub shorter : length (from_on bs s.at) ≤ length (from_on bs from)
   pub inside : s.at ≤ length bs
   pub means : Means (4 * length (from_on bs from) + 4) begun s.marks (from_on bs s.at) (pattern (4 * length (from_on bs from) + 4) (from_on bs from))

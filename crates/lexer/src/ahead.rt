@@ -1,4 +1,4 @@
-// What stands at a place among the tokens. The area and the count are no struct: it would be made anew for each question, since who asks writes nodes into the area.
+// What stands at a place among the tokens. The area, the count and the place are no struct: these are public functions, and their signatures stay.
 ghost use Rattle.std.specs.Prelude.{◌≡◌, ℕ, List};
 ghost use Rattle.language.specs.Program.{sees};
 ghost use Rattle.lexer.specs.Marks.{TokensIn};

@@ -1,11 +1,13 @@
-// The work area as numbered cells of seven words each.
+// The work area as numbered cells of seven words each: it is lent and fixed and there is no heap, so tokens, nodes and frames are cells by their numbers.
 ghost use Rattle.std.specs.Prelude.{◌≡◌, ◌<◌, slice_index};
 ghost use Rattle.lexer.specs.Memory.{cell, Stored};
 
-// How many cells there are, and how many words they take.
+// How many words a cell takes, how many cells there are, and how many words all take.
+const EACH: usize = 7;
+
 pub const CELLS: usize = 25_600;
 
-pub const WORDS: usize = 179_200;
+pub const WORDS: usize = EACH * CELLS;
 
 // The words of the work area.
 pub type Work = [u64; WORDS];
@@ -46,7 +48,7 @@ pub fn load(work: &Work, i: usize) -> Cell
     if i >= CELLS {
         return Cell::default();
     }
-    let at = 7 * i;
+    let at = EACH * i;
     Cell {
         kind: work[at],
         flag: work[at + 1],
@@ -63,8 +65,8 @@ pub fn store(work: &mut Work, i: usize, cell: Cell)
     requires { i < 25600 }
     ensures { Stored work.old work.new i cell }
 {
-    let at = 7 * i;
-    work[at..at + 7].copy_from_slice(&[
+    let at = EACH * i;
+    work[at..at + EACH].copy_from_slice(&[
         cell.kind,
         cell.flag,
         cell.first,

@@ -101,7 +101,7 @@ fn is_mark(c: u8) -> bool
 
 // Takes the byte `c` into a scan, unless the text cannot be a pattern.
 fn scan_on(text: &[u8], s: Scan, c: Meant) -> Option<Scan>
-    requires few { s.nested ≤ s.at }
+    requires nested { s.nested ≤ s.at }
     requires meant { MeantIs text.now s.at (Some c) }
     ensures scanned { (from : ℕ) → Scans text.now from s → Scanned text.now from c result }
     ensures opened { Opened s result }

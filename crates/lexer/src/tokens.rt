@@ -17,6 +17,18 @@ pub struct Name {
     pub len: usize,
 }
 
+impl Name {
+    // A name that stands in two words of a cell.
+    pub fn at(start: u64, len: u64) -> Name
+        ensures { result ≡ record { start = start; len = len } }
+    {
+        Name {
+            start: start as usize,
+            len: len as usize,
+        }
+    }
+}
+
 // The reserved words.
 #[derive(Clone, Copy, PartialEq, Eq)]
 pub enum Keyword {
@@ -48,7 +60,7 @@ pub enum Token {
     Number(u64),
     // A quoted text, by where its bytes begin.
     Quoted(usize),
-    // A sign by its number, which the specification gives: one of one byte is that byte.
+    // A sign by its number, of one byte that byte. Numbers of the specification stand in cells and `is_sign` takes any; an enum would want their table both ways.
     Sign(u8),
     Bad,
 }
@@ -72,7 +84,7 @@ pub const UNLIKE: u8 = 7;
 fn in_word(c: u8) -> bool
     ensures { result ≡ or (letter c) (digit c) }
 {
-    matches!(c, b'a'..=b'z' | b'A'..=b'Z' | b'_' | b'0'..=b'9')
+    c.is_ascii_alphanumeric() || c == b'_'
 }
 
 // Where the word ends that begins at `from`.
@@ -176,7 +188,7 @@ fn value(digits: &[u8]) -> u64
     n
 }
 
-// Whether a word is spelled like another.
+// Whether a word is spelled like another: it is ==, and stays since it is public.
 pub fn spells(word: &[u8], with: &[u8]) -> bool
     ensures { result ≡ same word.now with.now }
 {
@@ -298,7 +310,7 @@ fn quote_piece(text: &[u8], i: usize) -> Piece
     }
 }
 
-// The sign at a place of the text.
+// The sign at a place of the text. Those of two bytes have the numbers up to `UNLIKE`: a length beside the number would say the same once more.
 fn sign_piece(text: &[u8], i: usize) -> Piece
     requires inside { i < length text.now }
     requires class { class_of (slice_index text.now i) ≡ Other }
@@ -369,7 +381,7 @@ impl From<Keyword> for u64 {
     }
 }
 
-// Any other number is the last word.
+// Any other number is the last word: no number may fail, since the area may hold anything and `keyword_at` of the specification answers all.
 impl From<u64> for Keyword {
     ghost from_gives = { λ n k. k ≡ keyword_at n };
 
@@ -403,10 +415,7 @@ impl From<Cell> for Token {
     #[tactic(auto, unfolding(crate::specs::Marks::token_of))]
     fn from(c: Cell) -> Token {
         match c.kind {
-            NAME => Token::Name(Name {
-                start: c.first as usize,
-                len: c.second as usize,
-            }),
+            NAME => Token::Name(Name::at(c.first, c.second)),
             KEYWORD => Token::Keyword(Keyword::from(c.first)),
             NUMBER => Token::Number(c.first),
             QUOTED => Token::Quoted(c.first as usize),
@@ -438,9 +447,5 @@ pub fn cut(text: &[u8], work: &mut Work) -> usize
 pub fn peek(work: &Work, count: usize, place: usize) -> Option<Token>
     ensures { (bs : List ℕ) → TokensIn bs work.now count → Seen bs result (drop place (cut_up bs)) }
 {
-    if place < count {
-        Some(Token::from(load(work, place)))
-    } else {
-        None
-    }
+    (place < count).then(|| Token::from(load(work, place)))
 }

@@ -26,7 +26,7 @@ module _ (bs m m₁ : List ℕ) (count : ℕ) (s : Spot) (v : Name) (room : Room
   kept : Kept 0 s.nodes m m₁
   kept j a b = w.others j (λ z. omega arith)
 
-  pub call_tokens : TokensIn bs m₁ count
+  call_tokens : TokensIn bs m₁ count
   call_tokens = tokens_kept bs m m₁ count s.nodes (omega (arith, room.few, room.low)) kept k
 
   named : Named bs v (bytes_of bs v)
@@ -94,7 +94,7 @@ module _ (bs m m₁ : List ℕ) (count : ℕ) (s : Spot) (i : ℕ) (v : Name) (l
   kept_then : Kept 0 s.nodes m m₁
   kept_then j a b = w.others j (λ z. omega arith)
 
-  pub argument_tokens : TokensIn bs m₁ count
+  argument_tokens : TokensIn bs m₁ count
   argument_tokens = tokens_kept bs m m₁ count s.nodes (omega (arith, room.few, room.low)) kept_then k
 
   -- what was called, with which arguments so far, and the frames below

@@ -4,3 +4,4 @@ pub mod Frames
 pub mod Precedence
 pub mod Parsing
 pub mod Readers
+pub mod Single

@@ -1,14 +1,9 @@
--- What a reader of expressions has, what it keeps, and what its turns come to. Assumes nothing: these are definitions.
+-- What a reader of expressions keeps, and what its turns come to. Assumes nothing: these are definitions.
 use Rattle.std.specs.Prelude.{◌≡◌, ℕ, ◌+◌, Option}
-use Rattle.lexer.specs.Places.{Ready}
 use Rattle.parser.specs.Frames.{Before, Behind, Ended, effort, Pays}
 use Rattle.parser.specs.declared.expressions.Reader.{Reader}
 use Rattle.parser.specs.declared.frames.Spot.{Spot}
 use Rattle.parser.specs.declared.frames.Turn.{Turn}
-
--- a text of which the tokens are there
-abbrev pub Holds : Reader → Type 0
-Holds r = Ready r.text.now r.work.now r.count
 
 -- it reads the same text in the same area, of as many tokens
 pub record Same (r r₁ : Reader) : Type 0 where

@@ -1,11 +1,12 @@
-// Reads an expression by precedence, with a stack of its own.
-ghost use Rattle.std.specs.Prelude.{◌≡◌, ℕ, suc, ◌+◌, ◌<◌, ◌≤◌, true, false, not, ◌&&◌, List, ◌∷◌, length, ◌==◌, nat_le};
+// Reads an expression by precedence, with a stack of its own: nothing here may recurse on the machine's stack, so a loop goes from turn to turn.
+ghost use Rattle.std.specs.Prelude.{◌≡◌, ℕ, suc, ◌+◌, ◌<◌, ◌≤◌, true, false, not, ◌&&◌, ◌∷◌, ◌==◌, nat_le};
 ghost use Rattle.language.specs.Program.{sign, word, rest, sees, w_swap};
 ghost use Rattle.lexer.specs.Memory.{cell};
-ghost use Rattle.lexer.specs.Marks.{spelled, TokensIn};
-ghost use Rattle.parser.specs.Nodes.{operator_number, prefix_number};
+ghost use Rattle.lexer.specs.Marks.{spelled};
+ghost use Rattle.parser.specs.Nodes.{operator_number, prefix_number, Made, Listed};
 ghost use Rattle.lexer.specs.Places.{toks, Ready};
-ghost use Rattle.parser.specs.Frames.{Room, Grown, Closing, Parting, OnTop};
+ghost use Rattle.parser.specs.Single.{Ready-prop};
+ghost use Rattle.parser.specs.Frames.{Room, Grown, Pushed, Closing, Parting, OnTop};
 ghost use Rattle.parser.specs.declared.frames.Frame.TheVariants.{Infix, Group, SplitFirst, Arguments, SwapSecond};
 ghost use Rattle.language.specs.Text.{pick};
 ghost use Rattle.lexer.specs.Ahead.{NameHere, CallHere};
@@ -20,9 +21,15 @@ use lexer::tokens::{
     AND, AT_LEAST, AT_MOST, EQUAL, Keyword, Name, OR, Token, UNEQUAL, UNLIKE, peek,
 };
 
-// Levels at which what follows an operand binds to it, from 1: assigning, ||, &&, matching, comparing, joining, + and -, and * / %. They are numbers since
-// a frame keeps one in a cell, and by their order it goes on or ends.
+// Levels at which what follows an operand binds to it, the loosest first; a comma or a bracket does at none. They are numbers, no enum: a frame keeps one in a
+// cell and by their order it goes on or ends, so a contract would have to take the number of each at every comparison.
+const NONE: u64 = 0;
+
 const SETTING: u64 = 1;
+
+const EITHER: u64 = 2;
+
+const BOTH: u64 = 3;
 
 const MATCHING: u64 = 4;
 
@@ -30,28 +37,12 @@ const COMPARING: u64 = 5;
 
 const JOINING: u64 = 6;
 
-// The level of operands, to which everything may bind.
-const TIGHTEST: u64 = 8;
+const ADDING: u64 = 7;
 
-// Writes the node of an operand that is there, behind so many tokens; what follows may bind to it up to a level.
-fn make(work: &mut Work, s: Spot, node: TermNode, plain: bool, eaten: usize, high: u64) -> Turn
-    requires nodes { s.nodes < 25600 }
-    requires place { s.place ≤ 4096 }
-    requires eaten { eaten ≤ 4 }
-    ensures grown { Grown work.old work.new s node plain eaten high result }
-    ensures long { length work.new ≡ 179200 }
-{
-    put_term(work, s.nodes, node, plain);
-    Turn::After(
-        Spot {
-            place: s.place + eaten,
-            nodes: s.nodes + 1,
-            ..s
-        },
-        s.nodes,
-        high,
-    )
-}
+const MULTIPLYING: u64 = 8;
+
+// The level of operands and of signs before them, to which everything may bind.
+const TIGHTEST: u64 = MULTIPLYING;
 
 // The level at which what follows an operand binds to it: from 1 for =, which wants a place, to 8 for * / %; 0 if it does not.
 fn level(token: Token, place: bool) -> u64
@@ -59,8 +50,8 @@ fn level(token: Token, place: bool) -> u64
 {
     match token {
         Token::Sign(b'=') => u64::from(place),
-        Token::Sign(OR) => 2,
-        Token::Sign(AND) => 3,
+        Token::Sign(OR) => EITHER,
+        Token::Sign(AND) => BOTH,
         Token::Sign(b'~' | UNLIKE) | Token::Keyword(Keyword::In) => MATCHING,
         Token::Sign(EQUAL | UNEQUAL | AT_MOST | AT_LEAST | b'<' | b'>') => COMPARING,
         Token::Sign(b'$' | b'(' | b'!') | Token::Name(_) | Token::Number(_) | Token::Quoted(_) =>
@@ -73,9 +64,9 @@ fn level(token: Token, place: bool) -> u64
             | Keyword::Split
             | Keyword::Swap,
         ) => JOINING,
-        Token::Sign(b'+' | b'-') => 7,
-        Token::Sign(b'*' | b'/' | b'%') => 8,
-        _ => 0,
+        Token::Sign(b'+' | b'-') => ADDING,
+        Token::Sign(b'*' | b'/' | b'%') => MULTIPLYING,
+        _ => NONE,
     }
 }
 
@@ -101,29 +92,6 @@ fn operator(token: Token) -> Operator
     }
 }
 
-// The loosest level that may go on within what was begun last.
-fn low(work: &Work, depth: usize) -> u64
-    requires { depth ≤ 4096 }
-    ensures { result ≡ low_at work.now depth }
-{
-    if depth == 0 {
-        return 0;
-    }
-    match frame_at(work, depth - 1) {
-        Frame::Infix(level, _, _) => level,
-        Frame::Prefixed(_) | Frame::Dollar => TIGHTEST,
-        _ => 0,
-    }
-}
-
-// Whether what binds at a level goes on here, behind an operand to which up to `high` may bind.
-fn binds(work: &Work, depth: usize, level: u64, high: u64) -> bool
-    requires { depth ≤ 4096 }
-    ensures { result ≡ (nat_le (suc (low_at work.now depth)) level && nat_le level high) }
-{
-    low(work, depth) < level && level <= high
-}
-
 // Up to which level what follows may bind, once both sides of an operator are there: a comparison has two sides only.
 fn high_of(level: u64) -> u64
     ensures { result ≡ pick (level == 5) 4 level }
@@ -141,102 +109,174 @@ pub fn both_plain(work: &Work, a: usize, b: usize) -> bool
     is_plain(work, a) && is_plain(work, b)
 }
 
-// Whether an operator with these sides is of the core.
-fn infix_plain(work: &Work, o: Operator, a: usize, b: usize) -> bool
-    ensures { result ≡ (not (operator_number o == 12) && ((cell work.now a).flag == 1 && (cell work.now b).flag == 1)) }
-{
-    match o {
-        Operator::Index => false,
-        _ => both_plain(work, a, b),
-    }
-}
-
-// Whether what stands before an operand is of the core with it.
-fn prefix_plain(work: &Work, p: Prefix, a: usize) -> bool
-    ensures { result ≡ (nat_le (prefix_number p) 1 && (cell work.now a).flag == 1) }
-{
-    match p {
-        Prefix::Not | Prefix::Negative => is_plain(work, a),
-        Prefix::Length | Prefix::Upper => false,
-    }
-}
-
-// What reads expressions: a text, the area with its tokens, and how many they are. Of a `&mut` in a struct a proof knows no length, so a ghost field says it.
+// What reads expressions: a text, the area in which its tokens are, and how many they are. Where it stands is bounded at the methods that add to it: `Spot` and
+// `frame_at` are public, and an invariant or a narrower type would ask more of callers.
 #[derive(Drop)]
 struct Reader<'a> {
     text: &'a [u8],
     work: &'a mut Work,
     count: usize,
-    ghost long: { length work.now ≡ 179200 },
+    ghost ready: { Ready text.now work.now count } by { Ready-prop text.now work.now count },
 }
 
 impl<'a> Reader<'a> {
-    ghost use Rattle.parser.specs.Readers.{Holds, Same, Begins, Follows, Finishes};
+    ghost use Rattle.parser.specs.Readers.{Same, Begins, Follows, Finishes};
 
     // Whether this sign is there.
     fn is_sign(&self, place: usize, c: u8) -> bool
-        ensures { (bs : List ℕ) → TokensIn bs self.now.work.now self.now.count → result ≡ sees c (toks bs place) }
+        ensures { result ≡ sees c (toks self.now.text.now place) }
     {
         is_sign(self.work, self.count, place, c)
     }
 
+    // Writes a node of an expression behind the tokens.
+    fn put_term(&mut self, i: usize, node: TermNode, plain: bool)
+        requires low { 8448 ≤ i }
+        requires room { i < 25600 }
+        ensures made { Made self.old.work.now self.new.work.now i node plain }
+        ensures same { Same self.old self.new }
+    {
+        put_term(self.work, i, node, plain);
+    }
+
+    // Writes a list behind the tokens.
+    fn put_list(&mut self, i: usize, node: ListNode, plain: bool)
+        requires low { 8448 ≤ i }
+        requires room { i < 25600 }
+        ensures listed { Listed self.old.work.now self.new.work.now i node plain }
+        ensures same { Same self.old self.new }
+    {
+        put_list(self.work, i, node, plain);
+    }
+
+    // Pushes a frame and goes on to an operand, behind so many tokens.
+    fn push(&mut self, s: Spot, frame: Frame, eaten: usize) -> Turn
+        requires depth { s.depth ≤ 4096 }
+        requires place { s.place ≤ 4096 }
+        requires eaten { eaten ≤ 4 }
+        ensures pushed { Pushed self.old.work.now self.new.work.now s frame eaten result }
+        ensures same { Same self.old self.new }
+    {
+        push(self.work, s, frame, eaten)
+    }
+
+    // Writes the node of an operand that is there, behind so many tokens; what follows may bind to it up to a level.
+    fn make(&mut self, s: Spot, node: TermNode, plain: bool, eaten: usize, high: u64) -> Turn
+        requires low { 8448 ≤ s.nodes }
+        requires nodes { s.nodes < 25600 }
+        requires place { s.place ≤ 4096 }
+        requires eaten { eaten ≤ 4 }
+        ensures grown { Grown self.old.work.now self.new.work.now s node plain eaten high result }
+        ensures same { Same self.old self.new }
+    {
+        self.put_term(s.nodes, node, plain);
+        Turn::After(
+            Spot {
+                place: s.place + eaten,
+                nodes: s.nodes + 1,
+                ..s
+            },
+            s.nodes,
+            high,
+        )
+    }
+
+    // The loosest level that may go on within what was begun last.
+    fn low(&self, depth: usize) -> u64
+        requires { depth ≤ 4096 }
+        ensures { result ≡ low_at self.now.work.now depth }
+    {
+        if depth == 0 {
+            return NONE;
+        }
+        match frame_at(self.work, depth - 1) {
+            Frame::Infix(level, _, _) => level,
+            Frame::Prefixed(_) | Frame::Dollar => TIGHTEST,
+            _ => NONE,
+        }
+    }
+
+    // Whether what binds at a level goes on here, behind an operand to which up to `high` may bind.
+    fn binds(&self, depth: usize, level: u64, high: u64) -> bool
+        requires { depth ≤ 4096 }
+        ensures { result ≡ (nat_le (suc (low_at self.now.work.now depth)) level && nat_le level high) }
+    {
+        self.low(depth) < level && level <= high
+    }
+
+    // Whether an operator with these sides is of the core.
+    fn infix_plain(&self, o: Operator, a: usize, b: usize) -> bool
+        ensures { result ≡ (not (operator_number o == 12) && ((cell self.now.work.now a).flag == 1 && (cell self.now.work.now b).flag == 1)) }
+    {
+        match o {
+            Operator::Index => false,
+            _ => both_plain(self.work, a, b),
+        }
+    }
+
+    // Whether what stands before an operand is of the core with it.
+    fn prefix_plain(&self, p: Prefix, a: usize) -> bool
+        ensures { result ≡ (nat_le (prefix_number p) 1 && (cell self.now.work.now a).flag == 1) }
+    {
+        match p {
+            Prefix::Not | Prefix::Negative => is_plain(self.work, a),
+            Prefix::Length | Prefix::Upper => false,
+        }
+    }
+
     // An operand that begins with a sign.
     fn begin_sign(&mut self, s: Spot, d: u8) -> Option<Turn>
-        requires ready { Holds self.old }
         requires room { Room self.old.count s.nodes 0 s }
         requires here { toks self.old.text.now s.place ≡ sign d ∷ rest (toks self.old.text.now s.place) }
         ensures pays { Begins self.old self.new s result }
         ensures same { Same self.old self.new }
     {
         match d {
-            b'!' => Some(push(self.work, s, Frame::Prefixed(Prefix::Not), 1)),
-            b'-' => Some(push(self.work, s, Frame::Prefixed(Prefix::Negative), 1)),
-            b'(' => Some(push(self.work, s, Frame::Group, 1)),
-            b'$' => Some(push(self.work, s, Frame::Dollar, 1)),
+            b'!' => Some(self.push(s, Frame::Prefixed(Prefix::Not), 1)),
+            b'-' => Some(self.push(s, Frame::Prefixed(Prefix::Negative), 1)),
+            b'(' => Some(self.push(s, Frame::Group, 1)),
+            b'$' => Some(self.push(s, Frame::Dollar, 1)),
             _ => None,
         }
     }
 
     // f( with its arguments, or f() with none.
     fn begin_call(&mut self, s: Spot, x: Name) -> Turn
-        requires ready { Holds self.old }
         requires room { Room self.old.count s.nodes 0 s }
         requires here { CallHere self.old.text.now s.place x }
         ensures pays { Begins self.old self.new s (Some result) }
         ensures same { Same self.old self.new }
     {
-        put_list(self.work, s.nodes, ListNode::Empty, true);
+        self.put_list(s.nodes, ListNode::Empty, true);
         let t = Spot {
             nodes: s.nodes + 1,
             ..s
         };
         if self.is_sign(s.place + 2, b')') {
-            make(self.work, t, TermNode::Call(x, s.nodes), false, 3, TIGHTEST)
+            self.make(t, TermNode::Call(x, s.nodes), false, 3, TIGHTEST)
         } else {
-            push(self.work, t, Frame::Arguments(x, s.nodes), 2)
+            self.push(t, Frame::Arguments(x, s.nodes), 2)
         }
     }
 
     // An operand that begins with a name: an item, a call or a variable.
     fn begin_name(&mut self, s: Spot, x: Name) -> Turn
-        requires ready { Holds self.old }
         requires room { Room self.old.count s.nodes 0 s }
         requires here { NameHere self.old.text.now s.place x }
         ensures pays { Begins self.old self.new s (Some result) }
         ensures same { Same self.old self.new }
     {
         if self.is_sign(s.place + 1, b'[') {
-            push(self.work, s, Frame::Indexing(x), 2)
+            self.push(s, Frame::Indexing(x), 2)
         } else if self.is_sign(s.place + 1, b'(') {
             self.begin_call(s, x)
         } else {
-            make(self.work, s, TermNode::Variable(x), true, 1, TIGHTEST)
+            self.make(s, TermNode::Variable(x), true, 1, TIGHTEST)
         }
     }
 
     // swap( with its pattern and the comma behind it.
     fn begin_swap(&mut self, s: Spot) -> Option<Turn>
-        requires ready { Holds self.old }
         requires room { Room self.old.count s.nodes 0 s }
         requires here { toks self.old.text.now s.place ≡ word w_swap ∷ rest (toks self.old.text.now s.place) }
         requires opens { sees 40 (toks self.old.text.now (s.place + 1)) ≡ true }
@@ -245,7 +285,7 @@ impl<'a> Reader<'a> {
     {
         let q = pattern_at(self.text, self.work, self.count, s.place + 2)?;
         if self.is_sign(s.place + 3, b',') {
-            Some(push(self.work, s, Frame::SwapFirst(q), 4))
+            Some(self.push(s, Frame::SwapFirst(q), 4))
         } else {
             None
         }
@@ -253,7 +293,6 @@ impl<'a> Reader<'a> {
 
     // An operand that begins with a function that is built in; other reserved words begin none.
     fn begin_word(&mut self, s: Spot, k: Keyword) -> Option<Turn>
-        requires ready { Holds self.old }
         requires room { Room self.old.count s.nodes 0 s }
         requires here { toks self.old.text.now s.place ≡ word (spelled k) ∷ rest (toks self.old.text.now s.place) }
         ensures pays { Begins self.old self.new s result }
@@ -263,11 +302,11 @@ impl<'a> Reader<'a> {
             return None;
         }
         match k {
-            Keyword::Length => Some(push(self.work, s, Frame::Measuring(Prefix::Length), 2)),
-            Keyword::Upper => Some(push(self.work, s, Frame::Measuring(Prefix::Upper), 2)),
-            Keyword::Index => Some(push(self.work, s, Frame::IndexFirst, 2)),
-            Keyword::Substr => Some(push(self.work, s, Frame::PartFirst, 2)),
-            Keyword::Split => Some(push(self.work, s, Frame::SplitFirst, 2)),
+            Keyword::Length => Some(self.push(s, Frame::Measuring(Prefix::Length), 2)),
+            Keyword::Upper => Some(self.push(s, Frame::Measuring(Prefix::Upper), 2)),
+            Keyword::Index => Some(self.push(s, Frame::IndexFirst, 2)),
+            Keyword::Substr => Some(self.push(s, Frame::PartFirst, 2)),
+            Keyword::Split => Some(self.push(s, Frame::SplitFirst, 2)),
             Keyword::Swap => self.begin_swap(s),
             _ => None,
         }
@@ -275,21 +314,13 @@ impl<'a> Reader<'a> {
 
     // Begins to read an operand.
     fn begin(&mut self, s: Spot) -> Option<Turn>
-        requires ready { Holds self.old }
         requires room { Room self.old.count s.nodes 0 s }
         ensures pays { Begins self.old self.new s result }
         ensures same { Same self.old self.new }
     {
         match peek(self.work, self.count, s.place)? {
-            Token::Number(n) => Some(make(self.work, s, TermNode::Number(n), true, 1, TIGHTEST)),
-            Token::Quoted(start) => Some(make(
-                self.work,
-                s,
-                TermNode::Text(start),
-                true,
-                1,
-                TIGHTEST,
-            )),
+            Token::Number(n) => Some(self.make(s, TermNode::Number(n), true, 1, TIGHTEST)),
+            Token::Quoted(start) => Some(self.make(s, TermNode::Text(start), true, 1, TIGHTEST)),
             Token::Name(x) => Some(self.begin_name(s, x)),
             Token::Keyword(k) => self.begin_word(s, k),
             Token::Sign(d) => self.begin_sign(s, d),
@@ -299,7 +330,6 @@ impl<'a> Reader<'a> {
 
     // Behind ~ or !~ with a pattern; a !~ is a ~ that is negated.
     fn bind_like(&mut self, s: Spot, node: usize, negated: bool) -> Option<Turn>
-        requires ready { Holds self.old }
         requires room { Room self.old.count s.nodes 1 s }
         requires here { LikeSign (toks self.old.text.now s.place) negated }
         ensures pays { (h : ℕ) (t : Token) → Binds self.old.text.now self.old.work.now s node h t 4 → Follows self.old self.new s node h result }
@@ -308,26 +338,18 @@ impl<'a> Reader<'a> {
         let q = pattern_at(self.text, self.work, self.count, s.place + 1)?;
         let like = TermNode::Like(node, q);
         if !negated {
-            return Some(make(self.work, s, like, false, 2, 3));
+            return Some(self.make(s, like, false, 2, BOTH));
         }
-        put_term(self.work, s.nodes, like, false);
+        self.put_term(s.nodes, like, false);
         let t = Spot {
             nodes: s.nodes + 1,
             ..s
         };
-        Some(make(
-            self.work,
-            t,
-            TermNode::Unary(Prefix::Not, s.nodes),
-            false,
-            2,
-            3,
-        ))
+        Some(self.make(t, TermNode::Unary(Prefix::Not, s.nodes), false, 2, BOTH))
     }
 
     // Behind in with a table's name.
     fn bind_in(&mut self, s: Spot, node: usize) -> Option<Turn>
-        requires ready { Holds self.old }
         requires room { Room self.old.count s.nodes 1 s }
         requires no_like { sees 126 (toks self.old.text.now s.place) ≡ false }
         requires no_unlike { sees 7 (toks self.old.text.now s.place) ≡ false }
@@ -335,18 +357,17 @@ impl<'a> Reader<'a> {
         ensures same { Same self.old self.new }
     {
         let x = name_at(self.work, self.count, s.place + 1)?;
-        Some(make(self.work, s, TermNode::There(node, x), false, 2, 3))
+        Some(self.make(s, TermNode::There(node, x), false, 2, BOTH))
     }
 
     // Behind an operand, to which a token binds at a level.
     fn bind(&mut self, s: Spot, node: usize, token: Token, level: u64) -> Option<Turn>
-        requires ready { Holds self.old }
         requires room { Room self.old.count s.nodes 1 s }
         ensures pays { (h : ℕ) → Binds self.old.text.now self.old.work.now s node h token level → Follows self.old self.new s node h result }
         ensures same { Same self.old self.new }
     {
         match level {
-            SETTING => Some(push(self.work, s, Frame::Assigning(node), 1)),
+            SETTING => Some(self.push(s, Frame::Assigning(node), 1)),
             MATCHING => {
                 if self.is_sign(s.place, b'~') {
                     self.bind_like(s, node, false)
@@ -356,20 +377,21 @@ impl<'a> Reader<'a> {
                     self.bind_in(s, node)
                 }
             }
-            JOINING => Some(push(self.work, s, Frame::Infix(level, Operator::Join, node), 0)),
-            _ => Some(push(self.work, s, Frame::Infix(level, operator(token), node), 1)),
+            JOINING => Some(self.push(s, Frame::Infix(level, Operator::Join, node), 0)),
+            _ => Some(self.push(s, Frame::Infix(level, operator(token), node), 1)),
         }
     }
 
     // A node behind a closing sign; none of these is of the core.
     fn close(&mut self, s: Spot, c: u8, node: TermNode) -> Option<Turn>
+        requires low { 8448 ≤ s.nodes }
         requires nodes { s.nodes < 25600 }
         requires place { s.place ≤ 4096 }
-        ensures closes { (bs : List ℕ) → TokensIn bs self.old.work.now self.old.count → Closing self.old.work.now self.new.work.now s node false result (sees c (toks bs s.place)) }
+        ensures closes { Closing self.old.work.now self.new.work.now s node false result (sees c (toks self.old.text.now s.place)) }
         ensures same { Same self.old self.new }
     {
         if self.is_sign(s.place, c) {
-            Some(make(self.work, s, node, false, 1, TIGHTEST))
+            Some(self.make(s, node, false, 1, TIGHTEST))
         } else {
             None
         }
@@ -379,11 +401,11 @@ impl<'a> Reader<'a> {
     fn part(&mut self, s: Spot, frame: Frame) -> Option<Turn>
         requires depth { s.depth ≤ 4096 }
         requires place { s.place ≤ 4096 }
-        ensures parts { (bs : List ℕ) → TokensIn bs self.old.work.now self.old.count → Parting self.old.work.now self.new.work.now s frame result (sees 44 (toks bs s.place)) }
+        ensures parts { Parting self.old.work.now self.new.work.now s frame result (sees 44 (toks self.old.text.now s.place)) }
         ensures same { Same self.old self.new }
     {
         if self.is_sign(s.place, b',') {
-            Some(push(self.work, s, frame, 1))
+            Some(self.push(s, frame, 1))
         } else {
             None
         }
@@ -391,7 +413,6 @@ impl<'a> Reader<'a> {
 
     // Ends a bracket around an expression.
     fn finish_group(&self, s: Spot, node: usize) -> Option<Turn>
-        requires ready { Holds self.now }
         requires room { Room self.now.count s.nodes 1 s }
         requires here { OnTop self.now.work.now s Group }
         ensures { Finishes self.now self.now s node result }
@@ -409,7 +430,6 @@ impl<'a> Reader<'a> {
 
     // Ends the first operand of split: the table's name, the pattern and the bracket follow.
     fn finish_split(&mut self, s: Spot, node: usize) -> Option<Turn>
-        requires ready { Holds self.old }
         requires room { Room self.old.count s.nodes 1 s }
         requires here { OnTop self.old.work.now s SplitFirst }
         ensures pays { Finishes self.old self.new s node result }
@@ -433,21 +453,20 @@ impl<'a> Reader<'a> {
 
     // Ends an argument of a call: another one follows, or the bracket.
     fn finish_argument(&mut self, s: Spot, node: usize, x: Name, list: usize) -> Option<Turn>
-        requires ready { Holds self.old }
         requires room { Room self.old.count s.nodes 1 s }
         requires here { OnTop self.old.work.now s (Arguments x list) }
         ensures pays { Finishes self.old self.new s node result }
         ensures same { Same self.old self.new }
     {
         let plain = both_plain(self.work, list, node);
-        put_list(self.work, s.nodes, ListNode::More(list, node), plain);
+        self.put_list(s.nodes, ListNode::More(list, node), plain);
         let t = Spot {
             depth: s.depth - 1,
             nodes: s.nodes + 1,
             ..s
         };
         if self.is_sign(s.place, b',') {
-            Some(push(self.work, t, Frame::Arguments(x, s.nodes), 1))
+            Some(self.push(t, Frame::Arguments(x, s.nodes), 1))
         } else {
             self.close(t, b')', TermNode::Call(x, s.nodes))
         }
@@ -455,7 +474,6 @@ impl<'a> Reader<'a> {
 
     // Ends the last operand of swap, which has to be a place.
     fn finish_swap(&mut self, s: Spot, node: usize, q: usize, by: usize) -> Option<Turn>
-        requires ready { Holds self.old }
         requires room { Room self.old.count s.nodes 1 s }
         requires here { OnTop self.old.work.now s (SwapSecond q by) }
         ensures pays { Finishes self.old self.new s node result }
@@ -473,30 +491,21 @@ impl<'a> Reader<'a> {
 
     // Ends the right side of an operator.
     fn finish_infix(&mut self, s: Spot, node: usize, level: u64, o: Operator, left: usize) -> Turn
-        requires ready { Holds self.old }
         requires room { Room self.old.count s.nodes 1 s }
         requires here { OnTop self.old.work.now s (Infix level o left) }
         ensures pays { Finishes self.old self.new s node (Some result) }
         ensures same { Same self.old self.new }
     {
-        let plain = infix_plain(self.work, o, left, node);
+        let plain = self.infix_plain(o, left, node);
         let t = Spot {
             depth: s.depth - 1,
             ..s
         };
-        make(
-            self.work,
-            t,
-            TermNode::Binary(o, left, node),
-            plain,
-            0,
-            high_of(level),
-        )
+        self.make(t, TermNode::Binary(o, left, node), plain, 0, high_of(level))
     }
 
     // Ends what was begun last, with its operand.
     fn finish(&mut self, s: Spot, node: usize) -> Option<Turn>
-        requires ready { Holds self.old }
         requires room { Room self.old.count s.nodes 1 s }
         ensures pays { Finishes self.old self.new s node result }
         ensures same { Same self.old self.new }
@@ -511,16 +520,16 @@ impl<'a> Reader<'a> {
         match frame_at(self.work, t.depth) {
             Frame::Infix(level, o, left) => Some(self.finish_infix(s, node, level, o, left)),
             Frame::Prefixed(p) => {
-                let plain = prefix_plain(self.work, p, node);
-                Some(make(self.work, t, TermNode::Unary(p, node), plain, 0, TIGHTEST))
+                let plain = self.prefix_plain(p, node);
+                Some(self.make(t, TermNode::Unary(p, node), plain, 0, TIGHTEST))
             }
             Frame::Dollar => {
                 let plain = is_plain(self.work, node);
-                Some(make(self.work, t, TermNode::Field(node), plain, 0, TIGHTEST))
+                Some(self.make(t, TermNode::Field(node), plain, 0, TIGHTEST))
             }
             Frame::Assigning(left) => {
                 let plain = both_plain(self.work, left, node);
-                Some(make(self.work, t, TermNode::Assign(left, node), plain, 0, 0))
+                Some(self.make(t, TermNode::Assign(left, node), plain, 0, NONE))
             }
             Frame::Group => self.finish_group(s, node),
             Frame::Indexing(x) => self.close(t, b']', TermNode::Item(x, node)),
@@ -543,7 +552,6 @@ impl<'a> Reader<'a> {
 
     // Goes on behind an operand.
     fn go_on(&mut self, s: Spot, node: usize, high: u64) -> Option<Turn>
-        requires ready { Holds self.old }
         requires room { Room self.old.count s.nodes 1 s }
         ensures pays { Follows self.old self.new s node high result }
         ensures same { Same self.old self.new }
@@ -552,7 +560,7 @@ impl<'a> Reader<'a> {
             return self.finish(s, node);
         };
         let level = level(token, is_place(self.work, node));
-        if binds(self.work, s.depth, level, high) {
+        if self.binds(s.depth, level, high) {
             self.bind(s, node, token, level)
         } else {
             self.finish(s, node)

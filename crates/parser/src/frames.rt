@@ -1,9 +1,9 @@
-// The stack of an expression that is being read: what was begun and waits for an operand.
+// The stack of an expression that is being read: what was begun and waits for an operand. It is cells, with its depth beside: the area is lent and fixed, without a heap.
 ghost use Rattle.std.specs.Prelude.{◌≡◌, ◌+◌, ◌≤◌, length};
 ghost use Rattle.lexer.specs.Memory.{cell};
 ghost use Rattle.parser.specs.Frames.{frame_of, Pushed};
 
-use crate::nodes::{Operator, Prefix, name};
+use crate::nodes::{Operator, Prefix};
 use lexer::cells::{Cell, Work, load, store};
 use lexer::tokens::Name;
 
@@ -133,7 +133,7 @@ impl From<Cell> for Frame {
             PREFIXED => Frame::Prefixed(Prefix::from(c.first)),
             DOLLAR => Frame::Dollar,
             ASSIGNING => Frame::Assigning(c.first as usize),
-            INDEXING => Frame::Indexing(name(c.first, c.second)),
+            INDEXING => Frame::Indexing(Name::at(c.first, c.second)),
             MEASURING => Frame::Measuring(Prefix::from(c.first)),
             INDEX_FIRST => Frame::IndexFirst,
             INDEX_SECOND => Frame::IndexSecond(c.first as usize),
@@ -143,13 +143,14 @@ impl From<Cell> for Frame {
             SPLIT_FIRST => Frame::SplitFirst,
             SWAP_FIRST => Frame::SwapFirst(c.first as usize),
             SWAP_SECOND => Frame::SwapSecond(c.first as usize, c.second as usize),
-            ARGUMENTS => Frame::Arguments(name(c.first, c.second), c.third as usize),
+            ARGUMENTS => Frame::Arguments(Name::at(c.first, c.second), c.third as usize),
             _ => Frame::Group,
         }
     }
 }
 
-// Pushes a frame and goes on to an operand, behind so many tokens.
+// Pushes a frame and goes on to an operand, behind so many tokens. The length is promised besides the type: of an area behind a struct's `&mut`, lent anew or not, a
+// proof knows none after a call. The bounds are no types: a narrower one would ask more of callers.
 pub fn push(work: &mut Work, s: Spot, frame: Frame, eaten: usize) -> Turn
     requires depth { s.depth ≤ 4096 }
     requires place { s.place ≤ 4096 }

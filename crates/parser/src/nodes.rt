@@ -1,4 +1,4 @@
-// Expressions as nodes, a cell each. A node stands behind its parts and is never changed, so what is represented stays so.
+// Expressions as nodes, a cell each: the area is lent and fixed, without a heap, so parts are named by numbers and not held in boxes. A node stands behind its parts and is never changed, so what is represented stays so.
 ghost use Rattle.std.specs.Prelude.{◌≡◌, ◌<◌, length, ◌==◌};
 ghost use Rattle.lexer.specs.Memory.{cell, Stored};
 ghost use Rattle.parser.specs.Nodes.{operator_of, prefix_of, term_of, list_of, bit, Made, Listed, a_place};
@@ -98,7 +98,7 @@ impl From<Operator> for u64 {
     }
 }
 
-// Any other number is the last one. A table of all, which a keyword is read by, would be as long as the arms and serve nothing else.
+// Any other number is the last one: none may fail, since the area may hold anything and `operator_of` answers all. A table of all, which a keyword is read by, would be as long as the arms and serve nothing else.
 impl From<u64> for Operator {
     ghost from_gives = { λ n o. o ≡ operator_of n };
 
@@ -142,16 +142,6 @@ impl From<u64> for Prefix {
             2 => Prefix::Length,
             _ => Prefix::Upper,
         }
-    }
-}
-
-// A name that stands in two words of a cell.
-pub(crate) fn name(start: u64, len: u64) -> Name
-    ensures { result ≡ record { start = start; len = len } }
-{
-    Name {
-        start: start as usize,
-        len: len as usize,
     }
 }
 
@@ -222,8 +212,8 @@ impl From<Cell> for TermNode {
     fn from(c: Cell) -> TermNode {
         match c.kind {
             TEXT => TermNode::Text(c.first as usize),
-            VARIABLE => TermNode::Variable(name(c.first, c.second)),
-            ITEM => TermNode::Item(name(c.first, c.second), c.third as usize),
+            VARIABLE => TermNode::Variable(Name::at(c.first, c.second)),
+            ITEM => TermNode::Item(Name::at(c.first, c.second), c.third as usize),
             FIELD => TermNode::Field(c.first as usize),
             UNARY => TermNode::Unary(Prefix::from(c.first), c.second as usize),
             BINARY => TermNode::Binary(
@@ -232,11 +222,15 @@ impl From<Cell> for TermNode {
                 c.third as usize,
             ),
             LIKE => TermNode::Like(c.first as usize, c.second as usize),
-            THERE => TermNode::There(c.first as usize, name(c.second, c.third)),
+            THERE => TermNode::There(c.first as usize, Name::at(c.second, c.third)),
             ASSIGN => TermNode::Assign(c.first as usize, c.second as usize),
-            CALL => TermNode::Call(name(c.first, c.second), c.third as usize),
+            CALL => TermNode::Call(Name::at(c.first, c.second), c.third as usize),
             PART => TermNode::Part(c.first as usize, c.second as usize, c.third as usize),
-            SPLIT => TermNode::Split(c.first as usize, name(c.second, c.third), c.fourth as usize),
+            SPLIT => TermNode::Split(
+                c.first as usize,
+                Name::at(c.second, c.third),
+                c.fourth as usize,
+            ),
             SWAP => TermNode::Swap(c.first as usize, c.second as usize, c.third as usize),
             _ => TermNode::Number(c.first),
         }
@@ -282,7 +276,8 @@ fn put(work: &mut Work, i: usize, c: Cell, plain: bool)
     );
 }
 
-// Writes a node of an expression; the flag says whether all of it is of the core.
+// Writes a node of an expression; the flag says whether all of it is of the core. The length is promised besides the type, as by `push`. That lists have functions of
+// their own is no plainer otherwise: what is written is said by two records, `Made` and `Listed`, for which one function would want a trait just for them.
 pub fn put_term(work: &mut Work, i: usize, node: TermNode, plain: bool)
     requires { i < 25600 }
     ensures made { Made work.old work.new i node plain }

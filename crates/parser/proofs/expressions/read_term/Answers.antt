@@ -19,7 +19,7 @@ loop-turn-preserved-in-Operand c =
     let f = subst (λ t. Far a.text.now a.work.now m a.count a.place a.nodes t) c.in-Operand.is i.far in
     record {
       same = record { text = y.same.text ∙ i.same.text; area = y.same.area ∙ i.same.area; count = y.same.count ∙ i.same.count };
-      far = far_on a.text.now a.work.now m c.begin.new.self.work.now a.count a.place a.nodes 0 (effort a.count s) s _ c.in_ok-turn-in-Operand.turn (Before a.text.now m s) (c.begin.new.self.long ∙ sym c.loop-turn.reader.long) c.requires.start.few f.room (λ g x. x) (omega (arith, f.spends)) (rw (i.same.text, i.same.count) at y.pays) f;
+      far = far_on a.text.now a.work.now m c.begin.new.self.work.now a.count a.place a.nodes 0 (effort a.count s) s _ c.in_ok-turn-in-Operand.turn (Before a.text.now m s) (c.begin.new.self.ready.long ∙ sym c.loop-turn.reader.ready.long) c.requires.start.few f.room (λ g x. x) (omega (arith, f.spends)) (rw (i.same.text, i.same.count) at y.pays) f;
     }
 
 pub loop-turn-preserved : goal.loop-turn-preserved
@@ -32,5 +32,5 @@ loop-turn-preserved c =
     let f = subst (λ t. Far a.text.now a.work.now m a.count a.place a.nodes t) c.in-After.is i.far in
     record {
       same = record { text = y.same.text ∙ i.same.text; area = y.same.area ∙ i.same.area; count = y.same.count ∙ i.same.count };
-      far = far_on a.text.now a.work.now m c.go_on.new.self.work.now a.count a.place a.nodes 1 (effort a.count s + 3) s _ c.in_ok-turn-in-After.turn (Behind a.text.now m s c.in-After.node c.in-After.high) (c.go_on.new.self.long ∙ sym c.loop-turn.reader.long) c.requires.start.few f.room (λ g x. x) (omega (arith, f.spends)) (rw (i.same.text, i.same.count) at y.pays) f;
+      far = far_on a.text.now a.work.now m c.go_on.new.self.work.now a.count a.place a.nodes 1 (effort a.count s + 3) s _ c.in_ok-turn-in-After.turn (Behind a.text.now m s c.in-After.node c.in-After.high) (c.go_on.new.self.ready.long ∙ sym c.loop-turn.reader.ready.long) c.requires.start.few f.room (λ g x. x) (omega (arith, f.spends)) (rw (i.same.text, i.same.count) at y.pays) f;
     }

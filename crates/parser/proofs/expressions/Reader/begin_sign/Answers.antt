@@ -13,25 +13,25 @@ pub returns-in-33-clause-pays : goal.returns-in-33-clause-pays
 unfolding FrameSays
 returns-in-33-clause-pays c =
     let bs = c.args.self.now.text.now in
-    begin_sign bs c.args.self.now.work.now c.push.new.work c.args.self.now.count c.args.s c.requires.room 33 _ c.push.result c.requires.ready.tokens c.push.ensures.pushed (here bs c.args.s.place c.args.d 33 c.in-33.is c.requires.here) (in_un 0) refl (op_not (fuel bs))
+    begin_sign bs c.args.self.now.work.now c.push.new.self.work.now c.args.self.now.count c.args.s c.requires.room 33 _ c.push.result c.args.self.now.ready.tokens c.push.ensures.pushed (here bs c.args.s.place c.args.d 33 c.in-33.is c.requires.here) (in_un 0) refl (op_not (fuel bs))
 
 pub returns-in-45-clause-pays : goal.returns-in-45-clause-pays
 unfolding FrameSays
 returns-in-45-clause-pays c =
     let bs = c.args.self.now.text.now in
-    begin_sign bs c.args.self.now.work.now c.push-in-45.new.work c.args.self.now.count c.args.s c.requires.room 45 _ c.push-in-45.result c.requires.ready.tokens c.push-in-45.ensures.pushed (here bs c.args.s.place c.args.d 45 c.in-45.is c.requires.here) (in_un 1) refl (op_minus (fuel bs))
+    begin_sign bs c.args.self.now.work.now c.push-in-45.new.self.work.now c.args.self.now.count c.args.s c.requires.room 45 _ c.push-in-45.result c.args.self.now.ready.tokens c.push-in-45.ensures.pushed (here bs c.args.s.place c.args.d 45 c.in-45.is c.requires.here) (in_un 1) refl (op_minus (fuel bs))
 
 pub returns-in-40-clause-pays : goal.returns-in-40-clause-pays
 unfolding FrameSays
 returns-in-40-clause-pays c =
     let bs = c.args.self.now.text.now in
-    begin_sign bs c.args.self.now.work.now c.push-in-40.new.work c.args.self.now.count c.args.s c.requires.room 40 _ c.push-in-40.result c.requires.ready.tokens c.push-in-40.ensures.pushed (here bs c.args.s.place c.args.d 40 c.in-40.is c.requires.here) in_brackets refl (op_group (fuel bs))
+    begin_sign bs c.args.self.now.work.now c.push-in-40.new.self.work.now c.args.self.now.count c.args.s c.requires.room 40 _ c.push-in-40.result c.args.self.now.ready.tokens c.push-in-40.ensures.pushed (here bs c.args.s.place c.args.d 40 c.in-40.is c.requires.here) in_brackets refl (op_group (fuel bs))
 
 pub returns-in-36-clause-pays : goal.returns-in-36-clause-pays
 unfolding FrameSays
 returns-in-36-clause-pays c =
     let bs = c.args.self.now.text.now in
-    begin_sign bs c.args.self.now.work.now c.push-in-36.new.work c.args.self.now.count c.args.s c.requires.room 36 _ c.push-in-36.result c.requires.ready.tokens c.push-in-36.ensures.pushed (here bs c.args.s.place c.args.d 36 c.in-36.is c.requires.here) in_field refl (op_field (fuel bs))
+    begin_sign bs c.args.self.now.work.now c.push-in-36.new.self.work.now c.args.self.now.count c.args.s c.requires.room 36 _ c.push-in-36.result c.args.self.now.ready.tokens c.push-in-36.ensures.pushed (here bs c.args.s.place c.args.d 36 c.in-36.is c.requires.here) in_field refl (op_field (fuel bs))
 
 pub returns-in_default-clause-pays : goal.returns-in_default-clause-pays
 returns-in_default-clause-pays c =

@@ -12,16 +12,16 @@ unfolding FrameSays
 returns-then-is_sign-clause-pays c =
     let bs = c.args.self.now.text.now in
     let p = c.args.s.place in
-    let k = c.requires.ready.tokens in
+    let k = c.args.self.now.ready.tokens in
     let e = c.requires.here in
     let o : sees 40 (rest (toks bs p)) ≡ true = ap (sees 40) (rest_toks bs p) ∙ c.requires.opens in
     let q = c.in_ok-q.ensures in
-    let t : sees 44 (toks bs (p + 3)) ≡ true = sym (c.if-is_sign.ensures bs k) in
+    let t : sees 44 (toks bs (p + 3)) ≡ true = sym c.if-is_sign.ensures in
     let a : p + 3 < c.args.self.now.count = sees_ahead bs c.args.self.now.work.now c.args.self.now.count (p + 3) 44 k t in
     let z : p + 2 + 1 ≡ p + 3 = omega arith in
     let y : p + 3 + 1 ≡ p + 4 = omega arith in
     let g : pattern_here (rest (rest (toks bs p))) ≡ got q.0 (toks bs (p + 3)) = ap pattern_here (ap rest (rest_toks bs p) ∙ rest_two bs p) ∙ q.2 ∙ ap (λ i. got q.0 (toks bs i)) z in
-    begin_push bs c.args.self.now.work.now c.push.new.work c.args.self.now.count c.args.s c.requires.room _ 4 c.push.result c.push.ensures.pushed (omega arith) (omega arith) (in_swap q.0)
+    begin_push bs c.args.self.now.work.now c.push.new.self.work.now c.args.self.now.count c.args.s c.requires.room _ 4 c.push.result c.push.ensures.pushed (omega arith) (omega arith) (in_swap q.0)
     (q.0, q.1, refl)
     (λ fs l. ap (λ us. before (fuel bs) fs us) e ∙ op_swap (fuel bs) fs l (rest (toks bs p)) (toks bs (p + 3)) q.0 (enough_here bs p e) o g t
     ∙ ap (λ us. before (fuel bs) (in_swap q.0 ∷ fs) us) (rest_toks bs (p + 3) ∙ ap (toks bs) y))
@@ -30,11 +30,10 @@ pub returns-else-is_sign-clause-pays : goal.returns-else-is_sign-clause-pays
 returns-else-is_sign-clause-pays c =
     let bs = c.args.self.now.text.now in
     let p = c.args.s.place in
-    let k = c.requires.ready.tokens in
     let e = c.requires.here in
     let o : sees 40 (rest (toks bs p)) ≡ true = ap (sees 40) (rest_toks bs p) ∙ c.requires.opens in
     let q = c.in_ok-q.ensures in
-    let t : sees 44 (toks bs (p + 3)) ≡ false = sym (c.if-is_sign.ensures bs k) in
+    let t : sees 44 (toks bs (p + 3)) ≡ false = sym c.if-is_sign.ensures in
     let z : p + 2 + 1 ≡ p + 3 = omega arith in
     let g : pattern_here (rest (rest (toks bs p))) ≡ got q.0 (toks bs (p + 3)) = ap pattern_here (ap rest (rest_toks bs p) ∙ rest_two bs p) ∙ q.2 ∙ ap (λ i. got q.0 (toks bs i)) z in
     begin_fail bs c.args.self.now.work.now c.args.self.now.count c.args.s

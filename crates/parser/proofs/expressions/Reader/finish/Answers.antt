@@ -37,10 +37,10 @@ returns-in-Prefixed-clause-pays c =
     let s = c.args.s in
     let w = c.make in
     let q = c.in-Prefixed in
-    end_grown bs m w.new.work c.args.self.now.count s c.args.node (Prefixed q.p) c.requires.ready.tokens c.requires.room (record { deep = omega arith; is = q.ensures }) _ c.prefix_plain-plain.result 8 w.result w.ensures.grown
+    end_grown bs m w.new.self.work.now c.args.self.now.count s c.args.node (Prefixed q.p) c.args.self.now.ready.tokens c.requires.room (record { deep = omega arith; is = q.ensures }) _ c.prefix_plain-plain.result 8 w.result w.ensures.grown
     (λ a t b x.
     let e : c.prefix_plain-plain.result ≡ (leb (prefix_number q.p) 1 && plain_term a) = c.prefix_plain-plain.ensures ∙ ap (λ u. leb (prefix_number q.p) 1 && u) (plain_is bs m s.nodes c.args.node a t) in
-    (un (prefix_number q.p) a, made_un bs m w.new.work s.nodes c.requires.room.low q.p c.args.node c.prefix_plain-plain.result a e t, omega arith, (λ fs. ap (λ h. resume (fuel bs) (h ∷ fs) a (toks bs s.place)) (sym (x)))))
+    (un (prefix_number q.p) a, made_un bs m w.new.self.work.now s.nodes c.requires.room.low q.p c.args.node c.prefix_plain-plain.result a e t, omega arith, (λ fs. ap (λ h. resume (fuel bs) (h ∷ fs) a (toks bs s.place)) (sym (x)))))
 
 pub returns-in-Dollar-clause-pays : goal.returns-in-Dollar-clause-pays
 unfolding resume FrameSays
@@ -50,10 +50,10 @@ returns-in-Dollar-clause-pays c =
     let s = c.args.s in
     let w = c.make-in-Dollar in
     let q = c.in-Dollar in
-    end_grown bs m w.new.work c.args.self.now.count s c.args.node Dollar c.requires.ready.tokens c.requires.room (record { deep = omega arith; is = q.ensures }) _ c.is_plain-plain.result 8 w.result w.ensures.grown
+    end_grown bs m w.new.self.work.now c.args.self.now.count s c.args.node Dollar c.args.self.now.ready.tokens c.requires.room (record { deep = omega arith; is = q.ensures }) _ c.is_plain-plain.result 8 w.result w.ensures.grown
     (λ a t b x.
     let e : c.is_plain-plain.result ≡ plain_term a = c.is_plain-plain.ensures ∙ plain_is bs m s.nodes c.args.node a t in
-    (field a, made_field bs m w.new.work s.nodes c.requires.room.low c.args.node c.is_plain-plain.result a e t, omega arith, (λ fs. ap (λ h. resume (fuel bs) (h ∷ fs) a (toks bs s.place)) (sym (x)))))
+    (field a, made_field bs m w.new.self.work.now s.nodes c.requires.room.low c.args.node c.is_plain-plain.result a e t, omega arith, (λ fs. ap (λ h. resume (fuel bs) (h ∷ fs) a (toks bs s.place)) (sym (x)))))
 
 pub returns-in-Assigning-clause-pays : goal.returns-in-Assigning-clause-pays
 unfolding resume FrameSays
@@ -63,10 +63,10 @@ returns-in-Assigning-clause-pays c =
     let s = c.args.s in
     let w = c.make-in-Assigning in
     let q = c.in-Assigning in
-    end_grown bs m w.new.work c.args.self.now.count s c.args.node (Assigning q.left) c.requires.ready.tokens c.requires.room (record { deep = omega arith; is = q.ensures }) _ c.both_plain-plain.result 0 w.result w.ensures.grown
+    end_grown bs m w.new.self.work.now c.args.self.now.count s c.args.node (Assigning q.left) c.args.self.now.ready.tokens c.requires.room (record { deep = omega arith; is = q.ensures }) _ c.both_plain-plain.result 0 w.result w.ensures.grown
     (λ a t b x.
     let e : c.both_plain-plain.result ≡ (plain_term x.0 && plain_term a) = c.both_plain-plain.ensures ∙ ap₂ (λ u v. u && v) (plain_is bs m s.nodes q.left x.0 x.1) (plain_is bs m s.nodes c.args.node a t) in
-    (put_in x.0 a, made_set bs m w.new.work s.nodes c.requires.room.low q.left c.args.node c.both_plain-plain.result x.0 a e x.1 t, omega arith, (λ fs. ap (λ h. resume (fuel bs) (h ∷ fs) a (toks bs s.place)) (sym x.2))))
+    (put_in x.0 a, made_set bs m w.new.self.work.now s.nodes c.requires.room.low q.left c.args.node c.both_plain-plain.result x.0 a e x.1 t, omega arith, (λ fs. ap (λ h. resume (fuel bs) (h ∷ fs) a (toks bs s.place)) (sym x.2))))
 
 pub returns-in-Indexing-clause-pays : goal.returns-in-Indexing-clause-pays
 unfolding resume FrameSays
@@ -76,7 +76,7 @@ returns-in-Indexing-clause-pays c =
     let s = c.args.s in
     let w = c.close in
     let q = c.in-Indexing in
-    end_close bs m w.new.self.work.now c.args.self.now.count s c.args.node (Indexing q.x) c.requires.ready.tokens c.requires.room (record { deep = omega arith; is = q.ensures }) _ 93 w.result (w.ensures.closes bs c.requires.ready.tokens)
+    end_close bs m w.new.self.work.now c.args.self.now.count s c.args.node (Indexing q.x) c.args.self.now.ready.tokens c.requires.room (record { deep = omega arith; is = q.ensures }) _ 93 w.result w.ensures.closes
     (λ a t b x. (item x.0 a, made_item bs m w.new.self.work.now s.nodes c.requires.room.low q.x c.args.node x.0 a x.1 t, (λ fs. ap (λ h. resume (fuel bs) (h ∷ fs) a (toks bs s.place)) (sym x.2))))
 
 pub returns-in-Measuring-clause-pays : goal.returns-in-Measuring-clause-pays
@@ -87,7 +87,7 @@ returns-in-Measuring-clause-pays c =
     let s = c.args.s in
     let w = c.close-in-Measuring in
     let q = c.in-Measuring in
-    end_close bs m w.new.self.work.now c.args.self.now.count s c.args.node (Measuring q.p) c.requires.ready.tokens c.requires.room (record { deep = omega arith; is = q.ensures }) _ 41 w.result (w.ensures.closes bs c.requires.ready.tokens)
+    end_close bs m w.new.self.work.now c.args.self.now.count s c.args.node (Measuring q.p) c.args.self.now.ready.tokens c.requires.room (record { deep = omega arith; is = q.ensures }) _ 41 w.result w.ensures.closes
     (λ a t b x. (un (prefix_number q.p) a, made_un bs m w.new.self.work.now s.nodes c.requires.room.low q.p c.args.node false a (length_not_plain q.p a x.1) t, (λ fs. ap (λ h. resume (fuel bs) (h ∷ fs) a (toks bs s.place)) (sym x.0))))
 
 pub returns-in-IndexSecond-clause-pays : goal.returns-in-IndexSecond-clause-pays
@@ -98,7 +98,7 @@ returns-in-IndexSecond-clause-pays c =
     let s = c.args.s in
     let w = c.close-in-IndexSecond in
     let q = c.in-IndexSecond in
-    end_close bs m w.new.self.work.now c.args.self.now.count s c.args.node (IndexSecond q.a) c.requires.ready.tokens c.requires.room (record { deep = omega arith; is = q.ensures }) _ 41 w.result (w.ensures.closes bs c.requires.ready.tokens)
+    end_close bs m w.new.self.work.now c.args.self.now.count s c.args.node (IndexSecond q.a) c.args.self.now.ready.tokens c.requires.room (record { deep = omega arith; is = q.ensures }) _ 41 w.result w.ensures.closes
     (λ a t b x. (bin 12 x.0 a, made_bin bs m w.new.self.work.now s.nodes c.requires.room.low OIndex q.a c.args.node false x.0 a refl x.1 t, (λ fs. ap (λ h. resume (fuel bs) (h ∷ fs) a (toks bs s.place)) (sym x.2))))
 
 pub returns-in-PartThird-clause-pays : goal.returns-in-PartThird-clause-pays
@@ -109,7 +109,7 @@ returns-in-PartThird-clause-pays c =
     let s = c.args.s in
     let w = c.close-in-PartThird in
     let q = c.in-PartThird in
-    end_close bs m w.new.self.work.now c.args.self.now.count s c.args.node (PartThird q.a q.b) c.requires.ready.tokens c.requires.room (record { deep = omega arith; is = q.ensures }) _ 41 w.result (w.ensures.closes bs c.requires.ready.tokens)
+    end_close bs m w.new.self.work.now c.args.self.now.count s c.args.node (PartThird q.a q.b) c.args.self.now.ready.tokens c.requires.room (record { deep = omega arith; is = q.ensures }) _ 41 w.result w.ensures.closes
     (λ a t b x. (part x.0 x.1 a, made_part bs m w.new.self.work.now s.nodes c.requires.room.low q.a q.b c.args.node x.0 x.1 a x.2 x.3 t, (λ fs. ap (λ h. resume (fuel bs) (h ∷ fs) a (toks bs s.place)) (sym x.4))))
 
 pub returns-in-IndexFirst-clause-pays : goal.returns-in-IndexFirst-clause-pays
@@ -120,7 +120,7 @@ returns-in-IndexFirst-clause-pays c =
     let s = c.args.s in
     let w = c.part in
     let q = c.in-IndexFirst in
-    end_part bs m w.new.self.work.now c.args.self.now.count s c.args.node IndexFirst c.requires.ready.tokens c.requires.room (record { deep = omega arith; is = q.ensures }) _ w.result (w.ensures.parts bs c.requires.ready.tokens)
+    end_part bs m w.new.self.work.now c.args.self.now.count s c.args.node IndexFirst c.args.self.now.ready.tokens c.requires.room (record { deep = omega arith; is = q.ensures }) _ w.result w.ensures.parts
     (λ a t b x. (in_index_of a, (a, t, refl), (λ fs. ap (λ h. resume (fuel bs) (h ∷ fs) a (toks bs s.place)) (sym (x)))))
 
 pub returns-in-PartFirst-clause-pays : goal.returns-in-PartFirst-clause-pays
@@ -131,7 +131,7 @@ returns-in-PartFirst-clause-pays c =
     let s = c.args.s in
     let w = c.part-in-PartFirst in
     let q = c.in-PartFirst in
-    end_part bs m w.new.self.work.now c.args.self.now.count s c.args.node PartFirst c.requires.ready.tokens c.requires.room (record { deep = omega arith; is = q.ensures }) _ w.result (w.ensures.parts bs c.requires.ready.tokens)
+    end_part bs m w.new.self.work.now c.args.self.now.count s c.args.node PartFirst c.args.self.now.ready.tokens c.requires.room (record { deep = omega arith; is = q.ensures }) _ w.result w.ensures.parts
     (λ a t b x. (in_part_of a, (a, t, refl), (λ fs. ap (λ h. resume (fuel bs) (h ∷ fs) a (toks bs s.place)) (sym (x)))))
 
 pub returns-in-PartSecond-clause-pays : goal.returns-in-PartSecond-clause-pays
@@ -142,7 +142,7 @@ returns-in-PartSecond-clause-pays c =
     let s = c.args.s in
     let w = c.part-in-PartSecond in
     let q = c.in-PartSecond in
-    end_part bs m w.new.self.work.now c.args.self.now.count s c.args.node (PartSecond q.a) c.requires.ready.tokens c.requires.room (record { deep = omega arith; is = q.ensures }) _ w.result (w.ensures.parts bs c.requires.ready.tokens)
+    end_part bs m w.new.self.work.now c.args.self.now.count s c.args.node (PartSecond q.a) c.args.self.now.ready.tokens c.requires.room (record { deep = omega arith; is = q.ensures }) _ w.result w.ensures.parts
     (λ a t b x. (in_part_at x.0 a, (x.0, a, x.1, t, refl), (λ fs. ap (λ h. resume (fuel bs) (h ∷ fs) a (toks bs s.place)) (sym x.2))))
 
 pub returns-in-SwapFirst-clause-pays : goal.returns-in-SwapFirst-clause-pays
@@ -153,5 +153,5 @@ returns-in-SwapFirst-clause-pays c =
     let s = c.args.s in
     let w = c.part-in-SwapFirst in
     let q = c.in-SwapFirst in
-    end_part bs m w.new.self.work.now c.args.self.now.count s c.args.node (SwapFirst q.q) c.requires.ready.tokens c.requires.room (record { deep = omega arith; is = q.ensures }) _ w.result (w.ensures.parts bs c.requires.ready.tokens)
+    end_part bs m w.new.self.work.now c.args.self.now.count s c.args.node (SwapFirst q.q) c.args.self.now.ready.tokens c.requires.room (record { deep = omega arith; is = q.ensures }) _ w.result w.ensures.parts
     (λ a t b x. (in_swap_by x.0 a, (x.0, a, x.1, t, refl), (λ fs. ap (λ h. resume (fuel bs) (h ∷ fs) a (toks bs s.place)) (sym x.2))))

@@ -1,5 +1,5 @@
 use Rattle.std.proofs.Common.{sym}
-use Rattle.parser.proofs.Calls.{argument_tokens, argument_more, argument_last}
+use Rattle.parser.proofs.Calls.{argument_more, argument_last}
 use Rattle.parser.proofs.expressions.Reader.finish_argument.Goals as goal
 
 pub returns-then-is_sign-clause-pays : goal.returns-then-is_sign-clause-pays
@@ -9,8 +9,7 @@ returns-then-is_sign-clause-pays c =
     let a = c.args in
     let w = c.put_list in
     let q = c.both_plain-plain in
-    let k = argument_tokens bs m w.new.work a.self.now.count a.s a.node a.x a.list q.result c.requires.room c.requires.ready.tokens c.requires.here w.ensures.listed q.ensures in
-    argument_more bs m w.new.work a.self.now.count a.s a.node a.x a.list q.result c.requires.room c.requires.ready.tokens c.requires.here w.ensures.listed q.ensures c.push.new.work c.push.result (sym (c.if-is_sign.ensures bs k)) c.push.ensures.pushed
+    argument_more bs m w.new.self.work.now a.self.now.count a.s a.node a.x a.list q.result c.requires.room c.args.self.now.ready.tokens c.requires.here w.ensures.listed q.ensures c.push.new.self.work.now c.push.result (sym (rw w.ensures.same.text at c.if-is_sign.ensures)) c.push.ensures.pushed
 
 pub returns-else-is_sign-clause-pays : goal.returns-else-is_sign-clause-pays
 returns-else-is_sign-clause-pays c =
@@ -19,5 +18,4 @@ returns-else-is_sign-clause-pays c =
     let a = c.args in
     let w = c.put_list in
     let q = c.both_plain-plain in
-    let k = argument_tokens bs m w.new.work a.self.now.count a.s a.node a.x a.list q.result c.requires.room c.requires.ready.tokens c.requires.here w.ensures.listed q.ensures in
-    argument_last bs m w.new.work a.self.now.count a.s a.node a.x a.list q.result c.requires.room c.requires.ready.tokens c.requires.here w.ensures.listed q.ensures c.close.new.self.work.now c.close.result (sym (c.if-is_sign.ensures bs k)) (c.close.ensures.closes bs k)
+    argument_last bs m w.new.self.work.now a.self.now.count a.s a.node a.x a.list q.result c.requires.room c.args.self.now.ready.tokens c.requires.here w.ensures.listed q.ensures c.close.new.self.work.now c.close.result (sym (rw w.ensures.same.text at c.if-is_sign.ensures)) (rw w.ensures.same.text at c.close.ensures.closes)

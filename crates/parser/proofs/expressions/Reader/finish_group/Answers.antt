@@ -15,7 +15,7 @@ returns-then-not-is_sign c =
     let bs = c.args.self.now.text.now in
     let ts = toks bs c.args.s.place in
     end_fail bs c.args.self.now.work.now c.args.self.now.count c.args.s c.args.node Group c.requires.here (λ a t b x fs.
-    sym (past_none 41 ts (λ us. behind (fuel bs) fs 8 a us) (sym (c.if-not-is_sign.ensures bs c.requires.ready.tokens))) ∙ ap (λ h. resume (fuel bs) (h ∷ fs) a ts) (sym x))
+    sym (past_none 41 ts (λ us. behind (fuel bs) fs 8 a us) (sym c.if-not-is_sign.ensures)) ∙ ap (λ h. resume (fuel bs) (h ∷ fs) a ts) (sym x))
 
 pub returns : goal.returns
 unfolding resume FrameSays
@@ -27,10 +27,10 @@ returns c =
     let n = s.nodes in
     let room = c.requires.room in
     let o = c.requires.here in
-    let k = c.requires.ready.tokens in
+    let k = c.args.self.now.ready.tokens in
     let P = Ended bs m s c.args.node in
     let d = o.deep in
-    let t : sees 41 (toks bs p) ≡ true = sym (c.if-not-is_sign.ensures bs k) in
+    let t : sees 41 (toks bs p) ≡ true = sym c.if-not-is_sign.ensures in
     let a : p < c.args.self.now.count = sees_ahead bs m c.args.self.now.count p 41 k t in
     record {
       spends = omega arith;

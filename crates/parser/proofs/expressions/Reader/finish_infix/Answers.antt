@@ -16,12 +16,12 @@ returns-clause-pays c =
     let m = c.args.self.now.work.now in
     let s = c.args.s in
     let w = c.make in
-    end_grown bs m w.new.work c.args.self.now.count s c.args.node (Infix c.args.level c.args.o c.args.left) c.requires.ready.tokens c.requires.room c.requires.here _ c.infix_plain-plain.result c.high_of.result w.result w.ensures.grown
+    end_grown bs m w.new.self.work.now c.args.self.now.count s c.args.node (Infix c.args.level c.args.o c.args.left) c.args.self.now.ready.tokens c.requires.room c.requires.here _ c.infix_plain-plain.result c.high_of.result w.result w.ensures.grown
     (λ a t b x.
     let e : c.infix_plain-plain.result ≡ (not (eqb (operator_number c.args.o) 12) && (plain_term x.1 && plain_term a)) = c.infix_plain-plain.ensures ∙ ap₂ (λ u v. not (eqb (operator_number c.args.o) 12) && (u && v)) (plain_is bs m s.nodes c.args.left x.1 x.4) (plain_is bs m s.nodes c.args.node a t) in
     let h : c.high_of.result ≡ high_of x.0 = c.high_of.ensures ∙ high_is x.0 c.args.level x.2 in (
       bin (operator_number c.args.o) x.1 a,
-      made_bin bs m w.new.work s.nodes c.requires.room.low c.args.o c.args.left c.args.node c.infix_plain-plain.result x.1 a e x.4 t,
+      made_bin bs m w.new.self.work.now s.nodes c.requires.room.low c.args.o c.args.left c.args.node c.infix_plain-plain.result x.1 a e x.4 t,
       (let u = high_small x.0 x.3 in omega (arith, h)),
       (λ fs. ap (λ u. behind (fuel bs) fs u (bin (operator_number c.args.o) x.1 a) (toks bs s.place)) h ∙ ap (λ h. resume (fuel bs) (h ∷ fs) a (toks bs s.place)) (sym x.5)),
     ))

@@ -25,9 +25,9 @@ returns-clause-pays c =
     let m = c.args.self.now.work.now in
     let m₁ = c.close.new.self.work.now in
     let s = c.args.s in
-    let k = c.requires.ready.tokens in
+    let k = c.args.self.now.ready.tokens in
     let room = c.requires.room in
-    end_close bs m m₁ c.args.self.now.count s c.args.node (SwapSecond c.args.q c.args.by) k room c.requires.here _ 41 c.close.result (c.close.ensures.closes bs k) (λ a t b x.
+    end_close bs m m₁ c.args.self.now.count s c.args.node (SwapSecond c.args.q c.args.by) k room c.requires.here _ 41 c.close.result c.close.ensures.closes (λ a t b x.
     let z : can_set a ≡ true = sym (place_is bs m s.nodes c.args.node a t) ∙ sym c.if-not-is_place.ensures in (
       swap x.0 x.1 a,
       made_swap bs m m₁ s.nodes room.low c.args.q c.args.by c.args.node x.0 x.1 a x.2 x.3 t,

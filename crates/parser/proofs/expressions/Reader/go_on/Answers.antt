@@ -12,12 +12,12 @@ returns-in_default-clause-pays c =
     let s = c.args.s in
     let e = effort c.args.self.now.count s + 3 in
     goes_after bs m m c.finish.new.self.work.now c.args.self.now.count s.nodes s.nodes e e (Behind bs m s c.args.node c.args.high) (Ended bs m s c.args.node) c.finish.result (omega arith) c.requires.room.low (omega arith) (nothing_written s.nodes m)
-    (λ g y. ends_last bs m s c.args.node c.args.high g (c.in_default.ensures bs c.requires.ready.tokens) y) c.finish.ensures.pays
+    (λ g y. ends_last bs m s c.args.node c.args.high g (c.in_default.ensures bs c.args.self.now.ready.tokens) y) c.finish.ensures.pays
 
 pub returns-then-binds-clause-pays : goal.returns-then-binds-clause-pays
 returns-then-binds-clause-pays c =
     c.bind.ensures.pays c.args.high
-    (binds_from c.args.self.now.text.now c.args.self.now.work.now c.args.s c.args.node c.args.high c.in-Some.token c.level-level.result (c.in-Some.ensures c.args.self.now.text.now c.requires.ready.tokens)
+    (binds_from c.args.self.now.text.now c.args.self.now.work.now c.args.s c.args.node c.args.high c.in-Some.token c.level-level.result (c.in-Some.ensures c.args.self.now.text.now c.args.self.now.ready.tokens)
     (c.level-level.ensures ∙ ap (level_at c.in-Some.token) c.is_place.ensures) (sym c.if-binds.ensures))
 
 pub returns-else-binds-clause-pays : goal.returns-else-binds-clause-pays
@@ -27,4 +27,4 @@ returns-else-binds-clause-pays c =
     let s = c.args.s in
     let e = effort c.args.self.now.count s + 3 in
     goes_after bs m m c.finish-else-binds.new.self.work.now c.args.self.now.count s.nodes s.nodes e e (Behind bs m s c.args.node c.args.high) (Ended bs m s c.args.node) c.finish-else-binds.result (omega arith) c.requires.room.low (omega arith) (nothing_written s.nodes m)
-    (λ g y. ends_from bs m s c.args.node c.args.high c.in-Some.token c.level-level.result g (c.in-Some.ensures bs c.requires.ready.tokens) (c.level-level.ensures ∙ ap (level_at c.in-Some.token) c.is_place.ensures) (sym c.if-binds.ensures) y) c.finish-else-binds.ensures.pays
+    (λ g y. ends_from bs m s c.args.node c.args.high c.in-Some.token c.level-level.result g (c.in-Some.ensures bs c.args.self.now.ready.tokens) (c.level-level.ensures ∙ ap (level_at c.in-Some.token) c.is_place.ensures) (sym c.if-binds.ensures) y) c.finish-else-binds.ensures.pays
