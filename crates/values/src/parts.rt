@@ -54,7 +54,7 @@ pub fn part_of(len: usize, from: i64, count: i64) -> Place
     ensures part { (b : List ℕ) → length b ≡ len → cut b result ≡ cut_from (number from) (number count) b }
 {
     if count <= 0 {
-        return Place { start: 0, len: 0 };
+        return Place::default();
     }
     let wanted = count as usize;
     if from <= 0 {

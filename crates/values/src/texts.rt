@@ -56,7 +56,7 @@ impl Kind for Solid {
     ghost test = { λ c. not (blank c) };
 
     fn has(b: u8) -> bool {
-        !is_blank(b)
+        !Blank::has(b)
     }
 }
 
