@@ -33,7 +33,7 @@ pub fn place_of<A: Bytes, B: Bytes>(a: &A, b: &B) -> usize
     if n > m {
         return 0;
     }
-    for i in 0..m - n + 1 {
+    for i in 0..=m - n {
         if stands_at(a, b, i) {
             return i + 1;
         }
