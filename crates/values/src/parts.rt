@@ -8,7 +8,8 @@ ghost use Rattle.values.specs.Fields.{cut};
 use crate::fields::Place;
 use store::bytes::Bytes;
 
-// Whether b stands in a at `from`.
+// Whether b stands in a at `from`. `all` over the range was tried: it tells the proof of the closure's calls, one by one, and the goal that they come to `same`
+// stayed open.
 fn stands_at<A: Bytes, B: Bytes>(a: &A, b: &B, from: usize) -> bool
     requires { (from + length (B.Bytes.bytes b.now) ≤ length (A.Bytes.bytes a.now)) × (length (A.Bytes.bytes a.now) < 2 ^ 64) }
     ensures { result ≡ same (B.Bytes.bytes b.now) (take (length (B.Bytes.bytes b.now)) (drop from (A.Bytes.bytes a.now))) }

@@ -60,7 +60,8 @@ impl Kind for Solid {
     }
 }
 
-// Where the run of bytes of the kind ends that begins at `from`.
+// Where the run of bytes of the kind ends that begins at `from`. `find` over the range was tried: it tells the proof of the closure's calls, one by one, and the
+// goal that the first hit is where the run ends stayed open.
 pub fn past<K: Kind, T: Bytes>(t: &T, from: usize) -> usize
     ensures { result ≡ from + run K.Kind.test (drop from (T.Bytes.bytes t.now)) }
 {
