@@ -1,10 +1,8 @@
 // A line with one field changed: all fields are laid into a buffer of its own, with a blank between, and room is left for the new one.
 ghost use Rattle.std.specs.Prelude.{◌≡◌, ℕ, ◌+◌, ◌-◌, ◌*◌, ◌<◌, ◌≤◌, max, length, Some, None, Option, nat_le};
 ghost use Rattle.language.specs.Text.{pick};
-ghost use Rattle.store.specs.Words.{window, put_byte, put_bytes};
-ghost use Rattle.regions.specs.Parts.{Parts, parts, with_fields, with_lines};
-ghost use Rattle.lines.specs.Fields.{noted};
-ghost use Rattle.lines.specs.Building.{buffer_of, piece_of, pieces, all_pieces, total, laid, laid_one, offsets, built, after_built, after_set, after_line, line_of};
+ghost use Rattle.regions.specs.Parts.{parts};
+ghost use Rattle.lines.specs.Building.{buffer_of, piece_of, pieces, total, laid, laid_one, built, after_built, after_set, after_line, line_of};
 
 use crate::cutting::recut;
 use crate::line::{Line, nth_field};

@@ -1,8 +1,8 @@
 // A text is cut into fields in one pass over its bytes.
 ghost use Rattle.std.specs.Prelude.{◌≡◌, ℕ, ◌+◌, ◌-◌, ◌*◌, ◌<◌, ◌≤◌, min, length};
-ghost use Rattle.store.specs.Words.{unpacked, window};
-ghost use Rattle.regions.specs.Parts.{Parts, parts, with_fields};
-ghost use Rattle.lines.specs.Cutting.{Cuts, cuts_of, fresh_cut, closed_words, closed_count, pass_byte, recut_of};
+ghost use Rattle.store.specs.Words.{window};
+ghost use Rattle.regions.specs.Parts.{parts, with_fields};
+ghost use Rattle.lines.specs.Cutting.{cuts_of, fresh_cut, closed_words, closed_count, pass_byte, recut_of};
 
 use regions::Memory;
 use regions::fields::{Place, set_field};
@@ -10,7 +10,7 @@ use regions::lines::{BYTES, byte_within};
 use store::bytes::is_blank;
 
 // How far a text is cut. Places count from where the text begins, so they stay as they are when it is moved.
-#[derive(Clone, Copy)]
+#[derive(Clone, Copy, Default)]
 pub struct Cut {
     // how many bytes were passed
     pub at: usize,
@@ -24,11 +24,7 @@ pub struct Cut {
 pub fn fresh() -> Cut
     ensures { result ≡ fresh_cut }
 {
-    Cut {
-        at: 0,
-        since: 0,
-        fields: 0,
-    }
+    Cut::default()
 }
 
 // How many bytes are at a place.
@@ -70,11 +66,7 @@ pub fn pass(mem: &mut Memory, cut: Cut, b: u8) -> Cut
             fields,
         }
     } else {
-        Cut {
-            at,
-            since: cut.since,
-            fields: cut.fields,
-        }
+        Cut { at, ..cut }
     }
 }
 

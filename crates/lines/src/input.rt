@@ -1,8 +1,8 @@
 // The bytes that came and are in no line yet.
 ghost use Rattle.std.specs.Prelude.{◌≡◌, ℕ, ◌+◌, ◌-◌, ◌*◌, ◌<◌, ◌≤◌, min, true, length, drop};
-ghost use Rattle.store.specs.Words.{unpacked, window, put_bytes};
-ghost use Rattle.regions.specs.Parts.{Parts, parts, with_fields, with_lines};
-ghost use Rattle.lines.specs.Cutting.{Cuts, cuts_of, fresh_cut, closed_words, closed_count};
+ghost use Rattle.store.specs.Words.{window};
+ghost use Rattle.regions.specs.Parts.{parts, with_fields, with_lines};
+ghost use Rattle.lines.specs.Cutting.{cuts_of};
 ghost use Rattle.lines.specs.Scanning.{scan_on, scan_of, found_of, after_scan, waits_at, waiting, taken_lines, after_taken, last_words, last_of, after_last};
 
 use crate::cutting::{Cut, close, fresh, len_at, pass};
@@ -94,7 +94,7 @@ pub fn scan(mem: &mut Memory, input: &mut Input) -> Option<Line>
             start: input.from,
             len: cut.at,
         };
-        input.from = input.from + cut.at + 1;
+        input.from += cut.at + 1;
         input.cut = fresh();
         Some(Line {
             place,

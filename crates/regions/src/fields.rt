@@ -1,6 +1,6 @@
 // The region that has the places of the current line's fields, a word each.
 ghost use Rattle.std.specs.Prelude.{◌≡◌, ℕ, ◌+◌, ◌*◌, ◌<◌, ◌≤◌, length, slice_index, slice_set};
-ghost use Rattle.regions.specs.Parts.{Parts, parts, with_fields};
+ghost use Rattle.regions.specs.Parts.{parts, with_fields};
 ghost use Rattle.regions.specs.Places.{place_word, place_of, PlacesComeBack};
 
 use crate::{Memory, put, word};

@@ -7,7 +7,7 @@ pub mod lines;
 pub mod texts;
 
 ghost use Rattle.std.specs.Prelude.{◌≡◌, ℕ, ◌+◌, ◌*◌, ◌<◌, ◌≤◌, length, slice_index, slice_set};
-ghost use Rattle.regions.specs.Parts.{Parts, parts, with_code};
+ghost use Rattle.regions.specs.Parts.{parts, with_code};
 
 // How many words the memory has.
 pub const MEMORY: usize = 262_144;
@@ -17,7 +17,7 @@ pub type Memory = [u64; MEMORY];
 
 const CODE: usize = 64;
 
-const SLOTS: usize = 12_416;
+const CODE_END: usize = 12_416;
 
 fn word(region: &[u64], i: usize) -> u64
     ensures { result ≡ slice_index region.now i }
@@ -37,11 +37,11 @@ fn put(region: &mut [u64], i: usize, v: u64)
 pub fn code_at(mem: &Memory, i: usize) -> u64
     ensures { result ≡ slice_index (parts mem.now).code i }
 {
-    word(&mem[CODE..SLOTS], i)
+    word(&mem[CODE..CODE_END], i)
 }
 
 pub fn set_code(mem: &mut Memory, i: usize, v: u64)
     ensures { parts mem.new ≡ with_code (parts mem.old) (slice_set (parts mem.old).code i v) }
 {
-    put(&mut mem[CODE..SLOTS], i, v);
+    put(&mut mem[CODE..CODE_END], i, v);
 }

@@ -1,8 +1,8 @@
 // The region that has the bytes of lines, packed: first those that came and are in no line yet, with the line that is being worked on, then two
 // buffers for lines that the program puts together.
-ghost use Rattle.std.specs.Prelude.{◌≡◌, ℕ, ◌+◌, ◌-◌, ◌*◌, ◌^◌, ◌<◌, ◌≤◌, min, length, slice_index};
+ghost use Rattle.std.specs.Prelude.{◌≡◌, ℕ, ◌+◌, ◌-◌, ◌*◌, ◌^◌, ◌<◌, ◌≤◌, length, slice_index};
 ghost use Rattle.store.specs.Words.{unpacked, window, put_byte, put_bytes};
-ghost use Rattle.regions.specs.Parts.{Parts, parts, with_lines};
+ghost use Rattle.regions.specs.Parts.{parts, with_lines};
 
 use crate::Memory;
 use store::bytes::Bytes;

@@ -42,6 +42,27 @@ pub slid_dead : (T k e : ℕ) (s : Space) (from to n h : ℕ) → from < e → s
 unfolding slid
 slid_dead T k e s from to n h l p q r = rw (lt-ltb from e l, p, q, le-ltb h T r)
 
+-- turns behind the last block change nothing
+pub slid_fuel : (T k j e : ℕ) (s : Space) (from to : ℕ) → e ≤ from + k → e ≤ from + j → slid T k e s from to ≡ slid T j e s from to
+slid_fuel T zero j e s from to h l = slid_end T zero e s from to (omega arith) ∙ sym (slid_end T j e s from to (omega arith))
+slid_fuel T (suc k) zero e s from to h l = slid_end T (suc k) e s from to (omega arith) ∙ sym (slid_end T zero e s from to (omega arith))
+slid_fuel T (suc k) (suc j) e s from to h l =
+    let n = step_of e s from in
+    elim (cases_lt from e) [
+      | inr d ↦ slid_end T (suc k) e s from to d ∙ sym (slid_end T (suc j) e s from to d)
+      | inl d ↦
+          elim (cases_lt (get_or s.heap (from + 2) 0) T) [
+            | inl r ↦
+                slid_live T k e s from to n (get_or s.heap (from + 2) 0) d refl refl r
+                ∙ slid_fuel T k j e (moved s from to n (get_or s.heap (from + 2) 0)) (from + n) (to + n) (omega arith) (omega arith)
+                ∙ sym (slid_live T j e s from to n (get_or s.heap (from + 2) 0) d refl refl r)
+            | inr r ↦
+                slid_dead T k e s from to n (get_or s.heap (from + 2) 0) d refl refl r
+                ∙ slid_fuel T k j e s (from + n) to (omega arith) (omega arith)
+                ∙ sym (slid_dead T j e s from to n (get_or s.heap (from + 2) 0) d refl refl r)
+          ]
+    ]
+
 slid_is : (T : ℕ) (todo kept : List Cell) (rest : List ℕ) (k e : ℕ) (s : Space) (from to : ℕ) → length todo ≤ k →
     take to s.heap ≡ laid kept → drop from s.heap ≡ laid todo ++ rest → to ≤ from → from + extent todo ≡ e → e ≤ length s.heap → Sized todo →
     Slid s (slid T k e s from to) to kept (live T todo)
@@ -142,18 +163,17 @@ compacted_store T W s H st = (live T st.0, st.1, compacted_laid T W s st.0 st.1 
 
 -- one turn of the loop
 
-pub turn_live : (T W i e : ℕ) (s r : Space) (from to n h : ℕ) → i < W → from < e → step_of e s from ≡ n → get_or s.heap (from + 2) 0 ≡ h → h < T → r ≡ moved s from to n h →
-    slid T (W - i) e s from to ≡ slid T (W - (i + 1)) e r (from + n) (to + n)
-turn_live T W i e s r from to n h l f p q b m =
-    let k : W - i ≡ suc (W - (i + 1)) = omega arith in
-    ap (λ x. slid T x e s from to) k ∙ slid_live T (W - (i + 1)) e s from to n h f p q b ∙ ap (λ x. slid T (W - (i + 1)) e x (from + n) (to + n)) (sym m)
+pub turn_live : (T e : ℕ) (s r : Space) (from to n h : ℕ) → from < e → step_of e s from ≡ n → get_or s.heap (from + 2) 0 ≡ h → h < T → r ≡ moved s from to n h →
+    slid T (e - from) e s from to ≡ slid T (e - (from + n)) e r (from + n) (to + n)
+turn_live T e s r from to n h f p q b m =
+    let k : e - from ≡ suc (e - (from + 1)) = omega arith in
+    ap (λ x. slid T x e s from to) k ∙ slid_live T (e - (from + 1)) e s from to n h f p q b
+    ∙ slid_fuel T (e - (from + 1)) (e - (from + n)) e (moved s from to n h) (from + n) (to + n) (omega (arith, p)) (omega arith)
+    ∙ ap (λ x. slid T (e - (from + n)) e x (from + n) (to + n)) (sym m)
 
-pub turn_dead : (T W i e : ℕ) (s : Space) (from to n h : ℕ) → i < W → from < e → step_of e s from ≡ n → get_or s.heap (from + 2) 0 ≡ h → T ≤ h →
-    slid T (W - i) e s from to ≡ slid T (W - (i + 1)) e s (from + n) to
-turn_dead T W i e s from to n h l f p q b =
-    let k : W - i ≡ suc (W - (i + 1)) = omega arith in
-    ap (λ x. slid T x e s from to) k ∙ slid_dead T (W - (i + 1)) e s from to n h f p q b
-
-pub turns_done : (T W i e : ℕ) (s : Space) (from to : ℕ) → W ≤ i → slid T (W - i) e s from to ≡ with_top s to
-unfolding slid
-turns_done T W i e s from to h = let k : W - i ≡ 0 = omega arith in rw k
+pub turn_dead : (T e : ℕ) (s : Space) (from to n h : ℕ) → from < e → step_of e s from ≡ n → get_or s.heap (from + 2) 0 ≡ h → T ≤ h →
+    slid T (e - from) e s from to ≡ slid T (e - (from + n)) e s (from + n) to
+turn_dead T e s from to n h f p q b =
+    let k : e - from ≡ suc (e - (from + 1)) = omega arith in
+    ap (λ x. slid T x e s from to) k ∙ slid_dead T (e - (from + 1)) e s from to n h f p q b
+    ∙ slid_fuel T (e - (from + 1)) (e - (from + n)) e s (from + n) to (omega (arith, p)) (omega arith)

@@ -14,7 +14,7 @@ pub trait Bytes {
     fn at(&self, i: usize) -> u8
         ensures { result ≡ slice_index (bytes self.now) i };
 
-    // The eight bytes from byte i on, as a word, the first lowest.
+    // The eight bytes from byte i on, as a word, the first lowest. `array::from_fn` was tried: what its closure read from the text isn't known to the proof.
     fn word(&self, i: usize) -> u64
         requires { (i + 8 ≤ length (bytes self.now)) × (i + 8 < 2 ^ 64) }
         ensures { bytes_of 8 result ≡ take 8 (drop i (bytes self.now)) }

@@ -7,7 +7,8 @@ ghost use Rattle.store.specs.Short.{Read, short_of};
 use crate::bytes::Bytes;
 use crate::short::{LONGEST, Short};
 
-// Copies n words of bytes of t, from byte `from` of it on.
+// Copies n words of bytes of t, from byte `from` of it on. Where it begins and how many stay numbers beside t, here and in `bytes_out`: a struct for them
+// would live for one call, and its limits would be those of t and `out`, so it would carry no fact.
 fn words_out<T: Bytes>(t: &T, from: usize, n: usize, out: &mut [u8], at: usize)
     requires { (from + 8 * n ≤ length (T.Bytes.bytes t.now)) × ((from + 8 * n < 2 ^ 64) × (at + 8 * n ≤ length out.old)) }
     ensures { out.new ≡ paste out.old at (drop from (T.Bytes.bytes t.now)) (8 * n) }

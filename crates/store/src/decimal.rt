@@ -14,10 +14,10 @@ pub struct Decimal {
     row: [u8; ROW],
     from: usize,
     ghost inside: { from ≤ 20 },
-    ghost whole: { length row ≡ 20 },
 }
 
-// Writes the digits of n at the end of the row, and says where they begin. The number itself ends the loop.
+// Writes the digits of n at the end of the row, and says where they begin. The number itself ends the loop. By hand, since std's `to_string` allocates, and the
+// crate `itoa`, which needs no heap, has unsafe code: nothing more is to be trusted.
 fn put_digits(n: u64, row: &mut [u8; ROW]) -> usize
     requires { n < 10 ^ 19 }
     ensures inside { (1 ≤ result) × (result ≤ 20) }

@@ -25,11 +25,7 @@ impl Bytes for Lent<'_> {
     }
 
     fn at(&self, i: usize) -> u8 {
-        if i < self.piece.len() {
-            self.piece[i]
-        } else {
-            0
-        }
+        self.piece.get(i).copied().unwrap_or(0)
     }
 
     fn word(&self, i: usize) -> u64 {

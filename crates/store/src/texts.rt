@@ -10,8 +10,9 @@ use crate::bytes::Bytes;
 use crate::packed::{Packed, window_of};
 use crate::writing::{copy_in, move_bytes};
 
-// How many words the region has. It is lent as a slice, with its length required: of a part of an array that is lent as an array the proof of the lender
-// would not know what comes back, and a struct that holds the loan would need a second one for what is only read.
+// How many words the region has. It is lent as a slice, with its length required. To lend the part of the memory as an array was tried, by
+// `first_chunk_mut::<TEXTS>().unwrap()`: the lender's goal, that the memory with the words that come back put in has the changed texts, stayed open, as nothing
+// names those words. A struct that holds the loan would need a second one for what is only read.
 pub const TEXTS: usize = 98_304;
 // How many handles there are.
 const HANDLES: usize = 20_480;
@@ -132,10 +133,7 @@ fn slide(texts: &mut [u64], end: usize) -> usize
 {
     let mut from = 0;
     let mut to = 0;
-    for i in 0..WORDS {
-        if from >= end {
-            return to;
-        }
+    while from < end {
         let needed = word(texts, from + 1) / 8 + 4;
         let n = needed.min(end - from);
         let h = word(texts, from + 2);

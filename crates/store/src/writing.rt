@@ -14,11 +14,12 @@ pub fn set_byte(words: &mut [u64], i: usize, b: u8)
         let by = 8 * (i % 8);
         let w = words[i / 8];
         let old = (w >> by) & 0xff;
-        words[i / 8] = w - (old << by) + ((b as u64) << by);
+        words[i / 8] = w - (old << by) + (u64::from(b) << by);
     }
 }
 
-// Puts n bytes of t, from byte `from` of it on, one by one.
+// Puts n bytes of t, from byte `from` of it on, one by one. Where it begins and how many stay numbers beside t, here and in `put_words`: a struct for them
+// would live for one call, and its limits would be those of the two texts, so it would carry no fact.
 fn put_bytes<T: Bytes>(t: &T, from: usize, n: usize, words: &mut [u64], to: usize)
     requires { (from + n ≤ length (T.Bytes.bytes t.now)) × ((from + n < 2 ^ 64) × (to + n ≤ 8 * length words.old)) }
     ensures { words.new ≡ put_bytes words.old to (take n (drop from (T.Bytes.bytes t.now))) }
@@ -54,7 +55,8 @@ pub fn copy_in<T: Bytes>(t: &T, words: &mut [u64], to: usize)
     }
 }
 
-// Moves n bytes one by one, the first first.
+// Moves n bytes one by one, the first first. In the moves `from`, `to` and `n` stay numbers: what is required of them is about these words, so a struct of
+// the three could not carry it, and it would live for one call.
 fn move_some(words: &mut [u64], from: usize, to: usize, n: usize)
     requires inside { (from + n ≤ 8 * length words.old) × (to + n ≤ 8 * length words.old) }
     requires apart { (to ≤ from) ⊎ (from + n ≤ to) }
@@ -77,7 +79,8 @@ fn move_words(words: &mut [u64], from: usize, q: usize, n: usize)
     }
 }
 
-// Moves n bytes one by one, the last first.
+// Moves n bytes one by one, the last first. Beside `move_some`, since the two directions are right for different overlaps, and each has an invariant of its
+// own: with the order of the indices as a parameter both would be to be proved of one loop.
 fn move_up(words: &mut [u64], from: usize, to: usize, n: usize)
     requires { (from ≤ to) × (to + n ≤ 8 * length words.old) }
     ensures { words.new ≡ put_bytes words.old to (window from n words.old) }
@@ -107,9 +110,7 @@ pub fn move_bytes(words: &mut [u64], from: usize, to: usize, n: usize)
     requires { (from + n ≤ 8 * length words.old) × (to + n ≤ 8 * length words.old) }
     ensures { words.new ≡ put_bytes words.old to (window from n words.old) }
 {
-    if to <= from {
-        move_down(words, from, to, n);
-    } else if from + n <= to {
+    if to <= from || from + n <= to {
         move_down(words, from, to, n);
     } else {
         move_up(words, from, to, n);

@@ -51,14 +51,20 @@ module _ (xs ys : List ℕ) (i : ℕ) where
     at_heads : (o : Ordering) → Ordered earlier (get_or xs i 0 ∷ drop (i + 1) xs) (get_or ys i 0 ∷ drop (i + 1) ys) o → Ordered earlier (drop i xs) (drop i ys) o
     at_heads o r = rw (drop_more xs i 0 k, drop_more ys i 0 l) r
 
-    pub bytes_less : get_or xs i 0 < get_or ys i 0 → Ordered earlier (drop i xs) (drop i ys) Less
+    bytes_less : get_or xs i 0 < get_or ys i 0 → Ordered earlier (drop i xs) (drop i ys) Less
     bytes_less h = at_heads Less (heads_less (get_or xs i 0) (get_or ys i 0) (drop (i + 1) xs) (drop (i + 1) ys) h)
 
-    pub bytes_greater : get_or ys i 0 < get_or xs i 0 → Ordered earlier (drop i xs) (drop i ys) Greater
+    bytes_greater : get_or ys i 0 < get_or xs i 0 → Ordered earlier (drop i xs) (drop i ys) Greater
     bytes_greater h = at_heads Greater (heads_greater (get_or xs i 0) (get_or ys i 0) (drop (i + 1) xs) (drop (i + 1) ys) h)
 
     pub bytes_same : (o : Ordering) → get_or xs i 0 ≡ get_or ys i 0 → Ordered earlier (drop (i + 1) xs) (drop (i + 1) ys) o → Ordered earlier (drop i xs) (drop i ys) o
     bytes_same o h r = at_heads o (heads_same (get_or xs i 0) (get_or ys i 0) (drop (i + 1) xs) (drop (i + 1) ys) o h r)
+
+    -- where the two bytes at i differ, their order is that of the texts
+    pub bytes_found : (o : Ordering) → MatchOrdering o (get_or xs i 0 < get_or ys i 0) (get_or xs i 0 ≡ get_or ys i 0) (get_or ys i 0 < get_or xs i 0) → (o ≡ Equal → ⊥) → Ordered earlier (drop i xs) (drop i ys) o
+    bytes_found Less h n = bytes_less h
+    bytes_found Equal h n = absurd (n refl)
+    bytes_found Greater h n = bytes_greater h
 
   pub bytes_over : i ≡ min (length xs) (length ys) → (o : Ordering) → MatchOrdering o (length xs < length ys) (length xs ≡ length ys) (length ys < length xs) → Ordered earlier (drop i xs) (drop i ys) o
   unfolding earlier

@@ -232,10 +232,9 @@ module _ (s : List ℕ) where
   unfolding plain
   plain_long h = rw (lt-leb (length s) 18 h, and_right (ltb 0 (length s)) false refl)
 
-  pub plain_other : (k : ℕ) → k < length s → 0 + run digit (drop 0 s) ≡ k + run digit (drop k s) → digit (get_or s k 0) ≡ false → None ≡ plain s
+  pub plain_other : (run digit s ≡ length s → ⊥) → None ≡ plain s
   unfolding plain
-  plain_other k l e d =
-      let n : run digit s ≡ length s → ⊥ = λ f. omega (arith, run_stop digit s k l d) in
+  plain_other n =
       rw (ne_eqb (run digit s) (length s) n, and_right (leb (length s) 18) false refl, and_right (ltb 0 (length s)) false refl)
 
   pub plain_is : 0 < length s → length s ≤ 18 → run digit s ≡ length s → Some (leading 0 (take 18 s)) ≡ plain s

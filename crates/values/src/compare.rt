@@ -50,13 +50,9 @@ fn order_bytes<A: Bytes, B: Bytes>(a: &A, b: &B) -> Ordering
     let m = a.len();
     let n = b.len();
     for i in 0..m.min(n) {
-        let x = a.at(i);
-        let y = b.at(i);
-        if x < y {
-            return Ordering::Less;
-        }
-        if x > y {
-            return Ordering::Greater;
+        match a.at(i).cmp(&b.at(i)) {
+            Ordering::Equal => {}
+            found => return found,
         }
     }
     m.cmp(&n)

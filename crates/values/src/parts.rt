@@ -8,7 +8,8 @@ ghost use Rattle.values.specs.Fields.{cut};
 use crate::fields::Place;
 use store::bytes::Bytes;
 
-// Whether b stands in a at `from`.
+// Whether b stands in a at `from`. `all` over the range was tried: it tells the proof of the closure's calls, one by one, and the goal that they come to `same`
+// stayed open.
 fn stands_at<A: Bytes, B: Bytes>(a: &A, b: &B, from: usize) -> bool
     requires { (from + length (B.Bytes.bytes b.now) ≤ length (A.Bytes.bytes a.now)) × (length (A.Bytes.bytes a.now) < 2 ^ 64) }
     ensures { result ≡ same (B.Bytes.bytes b.now) (take (length (B.Bytes.bytes b.now)) (drop from (A.Bytes.bytes a.now))) }
@@ -33,7 +34,7 @@ pub fn place_of<A: Bytes, B: Bytes>(a: &A, b: &B) -> usize
     if n > m {
         return 0;
     }
-    for i in 0..m - n + 1 {
+    for i in 0..=m - n {
         if stands_at(a, b, i) {
             return i + 1;
         }
@@ -54,7 +55,7 @@ pub fn part_of(len: usize, from: i64, count: i64) -> Place
     ensures part { (b : List ℕ) → length b ≡ len → cut b result ≡ cut_from (number from) (number count) b }
 {
     if count <= 0 {
-        return Place { start: 0, len: 0 };
+        return Place::default();
     }
     let wanted = count as usize;
     if from <= 0 {

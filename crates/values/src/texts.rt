@@ -1,5 +1,5 @@
 // Runs of bytes of a kind, and texts taken as numbers.
-ghost use Rattle.std.specs.Prelude.{◌≡◌, ℕ, ◌+◌, ◌^◌, ◌<◌, Bool, not, take, drop};
+ghost use Rattle.std.specs.Prelude.{◌≡◌, ℕ, ◌+◌, ◌^◌, ◌<◌, min, Bool, not, take, drop};
 ghost use Rattle.language.specs.Text.{text, blank, digit, leading, number_of, looks};
 ghost use Rattle.store.specs.Numbers.{number};
 ghost use Rattle.values.specs.Texts.{run, Runs, dash, plain};
@@ -56,11 +56,12 @@ impl Kind for Solid {
     ghost test = { λ c. not (blank c) };
 
     fn has(b: u8) -> bool {
-        !is_blank(b)
+        !Blank::has(b)
     }
 }
 
-// Where the run of bytes of the kind ends that begins at `from`.
+// Where the run of bytes of the kind ends that begins at `from`. `find` over the range was tried: it tells the proof of the closure's calls, one by one, and the
+// goal that the first hit is where the run ends stayed open.
 pub fn past<K: Kind, T: Bytes>(t: &T, from: usize) -> usize
     ensures { result ≡ from + run K.Kind.test (drop from (T.Bytes.bytes t.now)) }
 {
@@ -89,21 +90,22 @@ fn past_minus<T: Bytes>(t: &T, from: usize) -> usize
     }
 }
 
-// What the digits from `from` on are worth.
-fn leading_from<T: Bytes>(t: &T, from: usize) -> u64
-    ensures worth { result ≡ leading 0 (take 18 (drop from (T.Bytes.bytes t.now))) }
-    ensures small { result < 10 ^ 18 }
+// What the digits from `from` on are worth, and how many of them count.
+fn digits_from<T: Bytes>(t: &T, from: usize) -> (u64, usize)
+    ensures worth { result.0 ≡ leading 0 (take 18 (drop from (T.Bytes.bytes t.now))) }
+    ensures small { result.0 < 10 ^ 18 }
+    ensures count { result.1 ≡ min 18 (run digit (drop from (T.Bytes.bytes t.now))) }
 {
     let count = t.len().saturating_sub(from).min(DIGITS);
     let mut n: u64 = 0;
     for k in 0..count {
         let b = t.at(from + k);
         if !is_digit(b) {
-            return n;
+            return (n, k);
         }
         n = 10 * n + (b - b'0') as u64;
     }
-    n
+    (n, count)
 }
 
 // What a text of digits alone is worth; none where it has other bytes, no bytes or more digits than count.
@@ -117,15 +119,8 @@ pub fn plain_digits<T: Bytes>(t: &T) -> Option<u64>
     if count > DIGITS {
         return None;
     }
-    let mut n: u64 = 0;
-    for k in 0..count {
-        let b = t.at(k);
-        if !is_digit(b) {
-            return None;
-        }
-        n = 10 * n + (b - b'0') as u64;
-    }
-    Some(n)
+    let (n, digits) = digits_from(t, 0);
+    if digits == count { Some(n) } else { None }
 }
 
 // A text taken as a number.
@@ -137,7 +132,8 @@ pub fn number_of<T: Bytes>(t: &T) -> i64
     }
     let start = past::<Blank, T>(t, 0);
     let first = past_minus(t, start);
-    let n = leading_from(t, first) as i64;
+    let (worth, _) = digits_from(t, first);
+    let n = worth as i64;
     if first > start { -n } else { n }
 }
 

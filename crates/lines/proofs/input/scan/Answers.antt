@@ -26,10 +26,11 @@ returns-then-scan_on c =
     let e = scan_all p i c.len_at-n.result (window_all i.from (i.to - i.from) c.len_at-n.result p.lines (lines_length c.args.mem.now c.told-mem) k) in
     let s : Scanned = scan_of p i in
     let t : c.scan_on.new.cut ≡ s.cuts.cut = c.scan_on.ensures.cut ∙ ap (λ x. x.cuts.cut) e in
+    let a : i.from + (c.scan_on.new.cut.at + 1) ≡ i.from + c.scan_on.new.cut.at + 1 = omega arith in
     let f : s.found ≡ true = sym (c.scan_on.ensures.found ∙ ap (λ x. x.found) e) ∙ c.if-scan_on.true in
     record {
       noted = c.scan_on.ensures.noted ∙ ap (λ x. with_fields p x.cuts.words) e;
-      input = ap (λ x. input_of (i.from + x.at + 1) i.to c.fresh-input.result i.ended) t ∙ ap (λ x. input_of (i.from + s.cuts.cut.at + 1) i.to x i.ended) c.fresh-input.ensures ∙ sym (after_found i s f);
+      input = ap (λ n. input_of n i.to c.fresh-input.result i.ended) a ∙ ap (λ x. input_of (i.from + x.at + 1) i.to c.fresh-input.result i.ended) t ∙ ap (λ x. input_of (i.from + s.cuts.cut.at + 1) i.to x i.ended) c.fresh-input.ensures ∙ sym (after_found i s f);
       found = ap (λ x. Some (line_at i.from x.at x.fields)) t ∙ sym (found_whole i s f);
     }
 

@@ -14,11 +14,11 @@ overflow_add-words c =
     let f : w < 2 ^ 64 = search rules in
     let h : c.args.i % 8 < 8 = omega arith in
     let l : with_byte w (c.args.i % 8) c.args.b < 256 ^ 8 = put_lt 8 (c.args.i % 8) w c.args.b h s f in
-    omega (arith, put_code w (c.args.i % 8) c.args.b h s, l)
+    rw c.from.ensures (omega (arith, put_code w (c.args.i % 8) c.args.b h s, l))
 
 pub returns-then-i-words : goal.returns-then-i-words
 unfolding put_byte
-returns-then-i-words c = ap (set c.args.words.now (c.args.i / 8)) (put_code (get_or c.args.words.now (c.args.i / 8) 0) (c.args.i % 8) c.args.b (omega arith) (omega arith))
+returns-then-i-words c = rw c.from.ensures (ap (set c.args.words.now (c.args.i / 8)) (put_code (get_or c.args.words.now (c.args.i / 8) 0) (c.args.i % 8) c.args.b (omega arith) (omega arith)))
 
 pub returns-else-i-words : goal.returns-else-i-words
 returns-else-i-words c = sym (put_past c.args.words.now c.args.i c.args.b (omega arith))

@@ -6,7 +6,7 @@ use Rattle.values.proofs.parts.part_of.Goals as goal
 pub returns-then-count-le0-clause-part : goal.returns-then-count-le0-clause-part
 returns-then-count-le0-clause-part c =
     let e : to_z w64 (of_z w64 c.args.count) ≡ c.args.count = omega (arith, ints) in
-    λ b h. cut_none c.args.from c.args.count b (simp e at c.if-count-le0.true)
+    λ b h. rw c.default.ensures.1 (cut_none c.args.from c.args.count b (simp e at c.if-count-le0.true))
 
 pub returns-then-from-le0-clause-part : goal.returns-then-from-le0-clause-part
 returns-then-from-le0-clause-part c =

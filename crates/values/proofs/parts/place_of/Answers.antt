@@ -14,5 +14,7 @@ returns-then-stands_at g c = sym (c.loop-i.invariant ∙ place_found (g.B.Bytes.
 pub loop-i-preserved : goal.loop-i-preserved
 loop-i-preserved g c = c.loop-i.invariant ∙ place_more (g.B.Bytes.bytes c.args.b.now) (g.A.Bytes.bytes c.args.a.now) (c.len-m.result - c.len-n.result + 1) c.loop-i.i (omega arith) (sym c.if-stands_at.ensures)
 
-pub returns : goal.returns
-returns g c = sym (c.loop-i.invariant ∙ place_over (g.B.Bytes.bytes c.args.b.now) (g.A.Bytes.bytes c.args.a.now) (c.len-m.result - c.len-n.result + 1) c.loop-i.i (omega arith))
+pub returns-else-stands_at : goal.returns-else-stands_at
+returns-else-stands_at g c =
+    let n = c.len-m.result - c.len-n.result + 1 in
+    sym (c.loop-i.invariant ∙ place_more (g.B.Bytes.bytes c.args.b.now) (g.A.Bytes.bytes c.args.a.now) n c.loop-i.i (omega arith) (sym c.if-stands_at.ensures) ∙ place_over (g.B.Bytes.bytes c.args.b.now) (g.A.Bytes.bytes c.args.a.now) n (c.loop-i.i + 1) (omega arith))

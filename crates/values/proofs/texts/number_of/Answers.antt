@@ -16,13 +16,13 @@ returns-in-Some g c =
 
 pub returns-then-first-start : goal.returns-then-first-start
 returns-then-first-start g c =
-    ap number (omega (arith, ints, c.leading_from-n.ensures.small)) ∙ sym (negative_is c.leading_from-n.result)
+    ap number (omega (arith, ints, c.digits_from-worth.ensures.small)) ∙ sym (negative_is c.digits_from-worth.result.0)
     ∙ sym (number_below (g.T.Bytes.bytes c.args.t.now) c.past-start.result c.past_minus-first.result c.past-start.ensures c.past_minus-first.ensures
-    c.leading_from-n.result c.leading_from-n.ensures.worth c.if-first-start.true)
+    c.digits_from-worth.result.0 c.digits_from-worth.ensures.worth c.if-first-start.true)
 
 pub returns-else-first-start : goal.returns-else-first-start
 returns-else-first-start g c =
-    let e : to_z w64 c.leading_from-n.result ≡ pos c.leading_from-n.result = omega (arith, ints, c.leading_from-n.ensures.small) in
+    let e : to_z w64 c.digits_from-worth.result.0 ≡ pos c.digits_from-worth.result.0 = omega (arith, ints, c.digits_from-worth.ensures.small) in
     ap number e
     ∙ sym (number_above (g.T.Bytes.bytes c.args.t.now) c.past-start.result c.past_minus-first.result c.past-start.ensures c.past_minus-first.ensures
-    c.leading_from-n.result c.leading_from-n.ensures.worth c.if-first-start.false)
+    c.digits_from-worth.result.0 c.digits_from-worth.ensures.worth c.if-first-start.false)

@@ -1,8 +1,0 @@
-use Rattle.std.proofs.Common.{◌≡◌, ◌-◌, ◌^◌, ◌<◌, take, drop}
-use Rattle.language.specs.Text.{leading}
-use Rattle.values.proofs.texts.leading_from.Given as goal
-
-abbrev pub invariant-loop-k : goal.invariant-loop-k
-invariant-loop-k g l =
-    (l.n < 10 ^ l.k)
-    × (leading 0 (take 18 (drop l.from (g.T.Bytes.bytes l.t))) ≡ leading l.n (take (18 - l.k) (drop l.k (drop l.from (g.T.Bytes.bytes l.t)))))
