@@ -84,12 +84,8 @@ pub fn get_field(mem: &mut Memory, regs: &mut Registers) -> Result<Turn, Refusal
 {
     let v = top(mem, regs);
     let n = number_in(mem, v);
-    let Some(k) = field_number(n) else {
-        return Err(Refusal::NoSuchNumber);
-    };
+    let k = field_number(n).ok_or(Refusal::NoSuchNumber)?;
     let place = place_of(mem, regs.line, k);
-    let Some(field) = line_value(mem, place) else {
-        return Err(Refusal::NoRoom);
-    };
+    let field = line_value(mem, place).ok_or(Refusal::NoRoom)?;
     Ok(replace_top(mem, regs, field))
 }

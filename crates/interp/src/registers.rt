@@ -1,5 +1,5 @@
 // The machine's registers, and how memory keeps them between steps.
-ghost use Rattle.std.specs.Prelude.{◌≡◌, ℕ, ◌^◌, ◌<◌, ◌++◌, length, slice_index};
+ghost use Rattle.std.specs.Prelude.{◌≡◌, ℕ, ◌^◌, ◌<◌, length, slice_index};
 ghost use Rattle.regions.specs.Parts.{parts, with_registers};
 ghost use Rattle.interp.specs.Registers.{stage_of, line_in, input_in, print_in, registers_in, row_of, saved_row, RegistersComeBack};
 

@@ -98,9 +98,7 @@ fn join_long(mem: &mut Memory, regs: &mut Registers, m: usize, size: usize) -> R
 {
     let first = under(mem, regs);
     let second = top(mem, regs);
-    let Some(handle) = new_handle(mem, size) else {
-        return Err(Refusal::NoRoom);
-    };
+    let handle = new_handle(mem, size).ok_or(Refusal::NoRoom)?;
     put_text(mem, handle, 0, first);
     put_text(mem, handle, m, second);
     release_value(mem, second);
