@@ -27,8 +27,8 @@ use store::short::LONGEST;
 use store::texts::Handle;
 use values::fields::field_number;
 
-// How many bytes are copied at once.
-const CHUNK: usize = 64;
+// How many bytes are copied at once, from the region of lines into a text here, and in engine's `lay_text` from a text into the region of lines.
+pub const CHUNK: usize = 64;
 
 // A few bytes of the region of lines go into a text, from byte `at` on.
 fn copy_chunk(mem: &mut Memory, h: Handle, at: usize, place: Place)

@@ -24,7 +24,9 @@ use store::texts::Handle;
 // The longest text that the language has.
 const LONGEST: usize = 65_535;
 
-// How many bytes the text of a value has.
+// How many bytes the text of a value has. Here and wherever the text of a value is asked for, an arm for each view: an enum of the views that implements
+// `Bytes` was tried and proves, but it borrows memory, which `put_text` and engine's `lay_value` write; where a number is taken as one it saves an arm; and
+// it is asked which view it is at each byte.
 #[tactic(auto, unfolding(language::specs::Text::as_text))]
 pub fn text_len(mem: &Memory, v: Value) -> usize
     ensures { result ≡ length (text_in (parts mem.now) v) }
