@@ -1,6 +1,5 @@
 -- What an operator has as its result, from what arithmetic and comparing answer.
 use Rattle.std.proofs.Common.{◌≡◌, Bool, true, false, ℤ, pos, negsuc, Some, None, Ok, Err, Option, Result, sym, refl, ap, ◌∙◌, IsErrAnd}
-use Rattle.std.specs.Option.{ok_or}
 use Rattle.language.specs.Text
 use Rattle.language.specs.Text.{number_of, truth, within, opposite}
 use Rattle.language.specs.Meaning.{State, got, reckon, reckon_one, as_got}
@@ -35,21 +34,6 @@ pub refused_so : (r : Result Code.Turn Refusal) (t : Trouble) → IsErrAnd r (λ
 refused_so (Ok x) t k = absurd k
 refused_so (Err e) ByZero k = ap (λ x. Refuse (refusal_number x)) k
 refused_so (Err e) TooLarge k = ap (λ x. Refuse (refusal_number x)) k
-
--- what an error is told as
-told_err : {A : Type 0} → Result A Refusal → Turn
-told_err (Ok x) = Refuse 0
-told_err (Err e) = Refuse (refusal_number e)
-
-came_err : (r : Result Code.Turn Refusal) (e : Refusal) → IsErrAnd r (λ x. x ≡ e) → came r ≡ Refuse (refusal_number e)
-came_err (Ok x) e k = absurd k
-came_err (Err x) e k = ap (λ x. Refuse (refusal_number x)) k
-
--- what is refused because there was nothing
-pub refused_for : {A : Type 0} (r : Result Code.Turn Refusal) (o : Option A) (e f : Refusal) → IsErrAnd r (λ x. x ≡ e) → Err e ≡ ok_or o f → o ≡ None →
-    came r ≡ Refuse (refusal_number f)
-unfolding told_err
-refused_for r o e f k h n = came_err r e k ∙ ap told_err (h ∙ ap (λ x. ok_or x f) n)
 
 settled_truth : (f : Value → Did) (g : Turn → Did) (b : Bool) (s : State) → settled f g (got (truth b) s) ≡ f (truth_of b)
 unfolding truth_of

@@ -20,6 +20,9 @@ pub mod worth;
 ghost use Rattle.std.specs.Prelude.{◌≡◌};
 ghost use Rattle.interp.specs.Outcomes.{refusal_number};
 
+// The longest line and the longest text that the language has.
+pub const LONGEST: usize = 65_535;
+
 // What comes of a turn, unless it is refused. One that ends or is refused leaves memory and registers so that the same would come again; only that there
 // is no room may leave texts moved together.
 #[derive(Clone, Copy)]

@@ -10,7 +10,7 @@ ghost use Rattle.interp.specs.Texts.{text_in, joined_long, joined};
 use crate::registers::Registers;
 use crate::stack::{cover_two, top, under};
 use crate::worth::no_bytes;
-use crate::{Refusal, Turn};
+use crate::{LONGEST, Refusal, Turn};
 use regions::Memory;
 use regions::texts::{fill_text, join_text, new_handle, release_value, text_view};
 use store::bytes::Bytes;
@@ -20,9 +20,6 @@ use store::decimal::decimal_of;
 use store::packed::{Packed, word_at};
 use store::short::{self, Short, low_bytes};
 use store::texts::Handle;
-
-// The longest text that the language has.
-const LONGEST: usize = 65_535;
 
 // How many bytes the text of a value has. Here and wherever the text of a value is asked for, an arm for each view: an enum of the views that implements
 // `Bytes` was tried and proves, but it borrows memory, which `put_text` and engine's `lay_value` write; where a number is taken as one it saves an arm; and

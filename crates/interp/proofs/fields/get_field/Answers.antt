@@ -2,7 +2,7 @@ use Rattle.std.proofs.Common.{◌≡◌, [], ◌∷◌, Some, None, sym, ap, ◌
 use Rattle.values.specs.Fields.{listed}
 use Rattle.regions.specs.Parts.{parts}
 use Rattle.interp.specs.Turns.{says}
-use Rattle.interp.proofs.Figures.{refused_for}
+use Rattle.interp.proofs.Refusing.{refused_for}
 use Rattle.interp.proofs.Copying.{field_known, field_placed}
 use Rattle.interp.proofs.fields.get_field.Goals as goal
 

@@ -8,7 +8,7 @@ use Rattle.regions.specs.Parts.{Parts}
 use Rattle.interp.specs.declared.registers.Registers.{Registers}
 use Rattle.interp.specs.Turns.{top_of, worth_in}
 use Rattle.interp.specs.Jumps.{ended, exited, nothing_done}
-use Rattle.interp.proofs.Figures.{refused_for}
+use Rattle.interp.proofs.Refusing.{refused_for}
 use Rattle.interp.proofs.jumps.exit.Goals as goal
 
 over : (p : Parts) (r : Registers) (v : Value) (m n : ℤ) (o : Option ℕ) → v ≡ top_of p r → m ≡ n → number n ≡ number_of (worth_in p v) →

@@ -4,7 +4,8 @@ use Rattle.store.specs.Numbers.{number}
 use Rattle.store.specs.declared.cells.Value.TheVariants.{Number}
 use Rattle.regions.specs.Parts.{parts}
 use Rattle.interp.specs.Turns.{says, replaced}
-use Rattle.interp.proofs.Figures.{refused_for, opposed_some, opposed_none}
+use Rattle.interp.proofs.Figures.{opposed_some, opposed_none}
+use Rattle.interp.proofs.Refusing.{refused_for}
 use Rattle.interp.proofs.numbers.oppose.Goals as goal
 
 pub returns : goal.returns

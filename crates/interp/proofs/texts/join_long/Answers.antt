@@ -5,7 +5,7 @@ use Rattle.regions.specs.Parts.{parts, with_texts}
 use Rattle.interp.specs.Outcomes.{Refuse}
 use Rattle.interp.specs.Turns.{says, top_of, under_of}
 use Rattle.interp.specs.Texts.{joined_in, joined_long}
-use Rattle.interp.proofs.Figures.{refused_for}
+use Rattle.interp.proofs.Refusing.{refused_for}
 use Rattle.interp.proofs.Joining.{Built, built_under, built_top, joined_built}
 use Rattle.interp.proofs.Loose.{released}
 use Rattle.interp.proofs.texts.join_long.Goals as goal
