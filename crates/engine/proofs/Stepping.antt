@@ -1,5 +1,5 @@
 -- Turns in a row: what stands in what is lent for a row, the loop, and what comes of a step.
-use Rattle.std.proofs.Common.{◌≡◌, ℕ, zero, suc, ◌+◌, ◌-◌, ◌<◌, ◌≤◌, min, true, List, ◌++◌, length, take, drop, Some, None, Option, sym, refl, ap, ◌∙◌, subst, append-nil, add-zero, arith, length-append, length-drop, take-append-drop, length-take, length-take-le, take-take, drop-drop}
+use Rattle.std.proofs.Common.{◌≡◌, ℕ, zero, suc, ◌+◌, ◌-◌, ◌<◌, ◌≤◌, min, true, List, ◌++◌, length, take, drop, Some, None, Option, Ok, sym, refl, ap, ◌∙◌, subst, append-nil, add-zero, arith, length-append, length-drop, take-append-drop, length-take, length-take-le, take-take, drop-drop}
 use lib.Seq.{paste, take-paste, drop-paste, length-paste, take-append-le, drop-append-le}
 use Rattle.std.proofs.lemmas.Bool.{le-leb, lt-leb}
 use Rattle.language.specs.Text.{pick}
@@ -10,14 +10,16 @@ use Rattle.regions.specs.Parts.{Parts, parts, with_lines}
 use Rattle.lines.specs.declared.input.Input.{Input}
 use Rattle.lines.specs.Scanning.{waiting, taken_lines, after_taken, input_of}
 use Rattle.rows.specs.Rows.{over_row}
-use Rattle.interp.specs.Outcomes.{Turn, On}
+use Rattle.interp.specs.declared.Turn as Code
+use Rattle.interp.specs.declared.Turn.TheVariants as Kind
+use Rattle.interp.specs.Outcomes.{Turn, On, Ask, Done, came}
 use Rattle.interp.specs.declared.registers.Registers.{Registers}
 use Rattle.interp.specs.Between.{with_input}
 use Rattle.interp.specs.Registers.{registers_in}
 use Rattle.interp.specs.Turns.{Did}
 use Rattle.engine.specs.Prints.{resumed, pending_left}
 use Rattle.engine.specs.Dispatch.{turned, turned_text, lent_after}
-use Rattle.engine.specs.Scenes.{Scene, scene, regs_of, piece_taken, end_told, with_room, turn_of, scene_turn, taken_in, machine_parts}
+use Rattle.engine.specs.Scenes.{Scene, scene, regs_of, piece_taken, end_told, with_room, turn_of, scene_turn, halt_of, taken_in, machine_parts}
 use Rattle.engine.specs.Steps.{scene_in, PutBehind}
 use Rattle.engine.proofs.Laying.{take_most}
 use Rattle.engine.proofs.Using.{turned_uses, resumed_uses}
@@ -117,6 +119,13 @@ round_loop (suc n) m r out m₁ r₁ out₁ t p h =
     ap (λ b. pick b (tired (scene_in m r out)) (Engine.turned machine_parts (λ s. loop machine_parts n s) (scene_turn (scene_in m r out)))) (lt-leb 4096 r.used h.room)
     ∙ ap (Engine.turned machine_parts (λ s. loop machine_parts n s)) (sym (round_turn m r out m₁ r₁ out₁ t h))
     ∙ ap (λ k. Engine.turned machine_parts (λ s. loop machine_parts k s) (turn_of t (scene_in m₁ r₁ out₁))) (sym e)
+
+-- a turn that no other follows
+pub round_stops : (n : ℕ) (m : List ℕ) (r : Registers) (out m₁ : List ℕ) (r₁ : Registers) (out₁ : List ℕ) (t : Code.Turn) → 0 < n → (t ≡ Kind.On → ⊥) →
+    Round m r out m₁ r₁ out₁ (came (Ok t)) → loop machine_parts n (scene_in m r out) ≡ halt_of (came (Ok t)) (scene_in m₁ r₁ out₁)
+round_stops n m r out m₁ r₁ out₁ Kind.On p f h = absurd (f refl)
+round_stops n m r out m₁ r₁ out₁ Kind.Ask p f h = round_loop n m r out m₁ r₁ out₁ Ask p h
+round_stops n m r out m₁ r₁ out₁ (Kind.Done k) p f h = round_loop n m r out m₁ r₁ out₁ (Done k) p h
 
 -- a full row ends the turns
 pub full_loop : (n : ℕ) (s : Scene) → 4096 ≤ s.regs.used → loop machine_parts n s ≡ tired s

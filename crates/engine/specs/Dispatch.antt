@@ -13,7 +13,7 @@ use Rattle.interp.specs.Turns.{Did}
 use Rattle.engine.specs.Prints.{few, line_text, values_text, line_printed, values_printed}
 use Rattle.engine.specs.Setting.{field_set}
 
--- what an operation does: prints and the setting of fields are done here, the others as between the parts of a line
+-- what an operation does: prints and the setting of fields are done here, the others as interp does them
 abbrev pub performed : Op → Parts → Registers → Did
 performed SetField p r = field_set p r
 performed PrintLine p r = line_printed p r

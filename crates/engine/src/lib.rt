@@ -1,4 +1,5 @@
-// One step of the machine: what it is told is taken in, then come turns, and what they print stands in the lent row.
+// One step of the machine: what it is told is taken in, then come turns, and what they print stands in the lent row. The row is a slice and no
+// `&mut [u8; ROW]`, which would ask callers for one size: it may be longer, and what a step leaves of a longer one is part of what is promised (`PutBehind`).
 #![tactic(auto)]
 
 pub mod dispatch;

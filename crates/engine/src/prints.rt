@@ -35,7 +35,7 @@ fn end_print(mem: &mut Memory, regs: &mut Registers, n: usize, printed: Printed)
     if printed.finished {
         release_values(mem, regs.depth, n);
         regs.depth = regs.depth.saturating_sub(n);
-        regs.print = Print { values: 0, out: 0 };
+        regs.print = Print::default();
     } else {
         regs.print = Print {
             values: n,

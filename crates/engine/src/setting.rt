@@ -9,11 +9,12 @@ ghost use Rattle.interp.specs.Turns.{says};
 ghost use Rattle.interp.specs.Texts.{text_in};
 ghost use Rattle.engine.specs.Setting.{relined, line_set, nth_set, field_set};
 
+use interp::fields::CHUNK;
 use interp::registers::Registers;
 use interp::stack::{drop_top, top, under};
 use interp::texts::text_len;
 use interp::worth::{no_bytes, number_in};
-use interp::{Refusal, Turn};
+use interp::{LONGEST, Refusal, Turn};
 use lines::building::{build, free_buffer};
 use lines::cutting::recut;
 use lines::line::{Line, nth_field};
@@ -28,11 +29,6 @@ use store::decimal::decimal_of;
 use store::lent::Lent;
 use store::texts::Handle;
 use values::fields::{field_number, next_field};
-
-// The longest line that the language has, and how many bytes are copied at once.
-const LONGEST: usize = 65_535;
-
-const CHUNK: usize = 64;
 
 // How many fields a text has.
 fn count_fields<T: Bytes>(t: &T) -> usize
@@ -102,7 +98,8 @@ fn take_line(mem: &mut Memory, regs: &mut Registers, line: Line) -> Turn
     drop_top(mem, regs)
 }
 
-// `$0` becomes the text of a value. What may be refused is looked for before anything is changed.
+// `$0` becomes the text of a value, beside the `set_line` of lines: that takes bytes lent from elsewhere, and here they may lie in the memory that is written.
+// The same holds of `set_nth`. What may be refused is looked for before anything is changed.
 fn set_line(mem: &mut Memory, regs: &mut Registers, v: Value) -> Result<Turn, Refusal>
     ensures { says (came result) (parts mem.new) regs.new ≡ line_set (parts mem.old) regs.old (text_in (parts mem.old) v) }
 {
@@ -127,9 +124,7 @@ fn set_nth(mem: &mut Memory, regs: &mut Registers, k: usize, v: Value) -> Result
     ensures { says (came result) (parts mem.new) regs.new ≡ nth_set (parts mem.old) regs.old k (text_in (parts mem.old) v) }
 {
     let len = text_len(mem, v);
-    let Some(line) = build(mem, regs.line, k, len) else {
-        return Err(Refusal::TooLong);
-    };
+    let line = build(mem, regs.line, k, len).ok_or(Refusal::TooLong)?;
     let gap = nth_field(mem, line, k);
     lay_value(mem, v, gap.start);
     Ok(take_line(mem, regs, line))
@@ -141,9 +136,7 @@ pub fn set_field(mem: &mut Memory, regs: &mut Registers) -> Result<Turn, Refusal
 {
     let number = top(mem, regs);
     let n = number_in(mem, number);
-    let Some(k) = field_number(n) else {
-        return Err(Refusal::NoSuchNumber);
-    };
+    let k = field_number(n).ok_or(Refusal::NoSuchNumber)?;
     let v = under(mem, regs);
     if k == 0 {
         set_line(mem, regs, v)

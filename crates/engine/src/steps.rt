@@ -47,11 +47,9 @@ fn turns(
         if regs.used >= ROW {
             return Ok(Turn::On);
         }
-        match turn(mem, regs, out) {
-            Ok(Turn::On) => {}
-            Ok(Turn::Ask) => return Ok(Turn::Ask),
-            Ok(Turn::Done(k)) => return Ok(Turn::Done(k)),
-            Err(refusal) => return Err(refusal),
+        match turn(mem, regs, out)? {
+            Turn::On => {}
+            stop => return Ok(stop),
         }
     }
     Ok(Turn::On)
@@ -65,12 +63,11 @@ fn answer(last: Result<Turn, Refusal>, used: usize) -> Result<Answer, Refusal>
     if used > 0 {
         return Ok(Answer::Write(used));
     }
-    match last {
-        Ok(Turn::On) => Ok(Answer::Write(0)),
-        Ok(Turn::Ask) => Ok(Answer::Ask),
-        Ok(Turn::Done(k)) => Ok(Answer::Done(k)),
-        Err(refusal) => Err(refusal),
-    }
+    Ok(match last? {
+        Turn::On => Answer::Write(0),
+        Turn::Ask => Answer::Ask,
+        Turn::Done(k) => Answer::Done(k),
+    })
 }
 
 // One step. What is to be written stands at the front of `out`.

@@ -4,3 +4,4 @@ mod Figures
 mod Joining
 mod Loose
 mod Pieces
+pub mod Refusing

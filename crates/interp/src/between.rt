@@ -6,15 +6,12 @@ ghost use Rattle.interp.specs.Turns.{says};
 ghost use Rattle.interp.specs.Between.{started_regs, started_turn, closing, waited_regs, waited_turn, last_taken, line_sought, line_next};
 
 use crate::registers::{Registers, Stage};
-use crate::{Refusal, Turn};
+use crate::{LONGEST, Refusal, Turn};
 use lines::cutting::len_at;
 use lines::input::{Input, last_line, scan};
 use lines::line::Line;
 use regions::Memory;
 use regions::fields::{FIELDS, Place};
-
-// The longest line that the language has.
-const LONGEST: usize = 65_535;
 
 // A line was found: its rules are next, if it is not too long and its fields have room.
 #[tactic(auto, unfolding(crate::specs::Between::started_regs, crate::specs::Between::started_turn))]

@@ -1,5 +1,5 @@
 // Comparisons of what is on the stack.
-ghost use Rattle.std.specs.Prelude.{◌≡◌, [], length, Ok};
+ghost use Rattle.std.specs.Prelude.{◌≡◌, length, Ok};
 ghost use Rattle.language.specs.Text.{text};
 ghost use Rattle.store.specs.Numbers.{number};
 ghost use Rattle.values.specs.Compare.{operator, worth};
@@ -16,35 +16,13 @@ use regions::Memory;
 use regions::texts::{release_value, text_view};
 use store::bytes::Bytes;
 use store::cells::Value;
+use store::lent::Lent;
 use values::compare::{Comparison, Operand, compare, plain_number};
-
-// What stands for a text beside numbers, where there is none.
-#[derive(Clone, Copy)]
-pub struct NoText {}
-
-impl Bytes for NoText {
-    ghost bytes = { λ _. [] };
-
-    fn len(&self) -> usize {
-        0
-    }
-
-    fn at(&self, _i: usize) -> u8 {
-        0
-    }
-
-    // Any word will do, since there are no bytes to read it from.
-    fn word(&self, _i: usize) -> u64
-        ensures { result ≡ 0 }
-    {
-        0
-    }
-}
 
 fn compare_with_number<T: Bytes>(c: Comparison, a: Operand<T>, n: i64) -> bool
     ensures { Compares c result (worth T.Bytes.bytes a.entry) (number n) }
 {
-    compare(c, a, Operand::<NoText>::Number(n))
+    compare(c, a, Operand::<Lent>::Number(n))
 }
 
 // A text becomes an operand only where it is of any type: the check covers no enum that refers to a struct with a ghost field, as a short text is.
@@ -78,7 +56,7 @@ fn compare_values(mem: &Memory, c: Comparison, a: Value, b: Value) -> bool
 {
     match a {
         Value::Unset => compare_text_to(mem, c, &no_bytes(), b),
-        Value::Number(n) => compare_to(mem, c, Operand::<NoText>::Number(n), b),
+        Value::Number(n) => compare_to(mem, c, Operand::<Lent>::Number(n), b),
         Value::Short(short) => compare_text_to(mem, c, &short, b),
         Value::Text(handle) => compare_text_to(mem, c, &text_view(mem, handle), b),
     }
@@ -93,7 +71,7 @@ pub fn compare_two(mem: &mut Memory, regs: &mut Registers, c: Comparison) -> Tur
     // most values are seen to be numbers at once; without an arm that lets nothing go for them a loop that counts takes 1.05 times as long
     match (plain_number(first), plain_number(second)) {
         (Some(m), Some(n)) => {
-            let b = compare_with_number(c, Operand::<NoText>::Number(m), n);
+            let b = compare_with_number(c, Operand::<Lent>::Number(m), n);
             cover_two(mem, regs, truth(b))
         }
         _ => {

@@ -53,7 +53,7 @@ pub fn perform(mem: &mut Memory, regs: &mut Registers, op: Op) -> Result<Turn, R
     }
 }
 
-// One turn, where the operation is none that is done elsewhere.
+// One turn, where the operation is none that is done elsewhere: that of a machine without prints, beside engine's, which has them.
 #[tactic(auto, unfolding(crate::specs::Dispatch::turned))]
 pub fn turn(mem: &mut Memory, regs: &mut Registers) -> Result<Turn, Refusal>
     ensures { says (came result) (parts mem.new) regs.new ≡ turned (parts mem.old) regs.old }

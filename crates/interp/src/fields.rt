@@ -27,8 +27,8 @@ use store::short::LONGEST;
 use store::texts::Handle;
 use values::fields::field_number;
 
-// How many bytes are copied at once.
-const CHUNK: usize = 64;
+// How many bytes are copied at once, from the region of lines into a text here, and in engine's `lay_text` from a text into the region of lines.
+pub const CHUNK: usize = 64;
 
 // A few bytes of the region of lines go into a text, from byte `at` on.
 fn copy_chunk(mem: &mut Memory, h: Handle, at: usize, place: Place)
@@ -84,12 +84,8 @@ pub fn get_field(mem: &mut Memory, regs: &mut Registers) -> Result<Turn, Refusal
 {
     let v = top(mem, regs);
     let n = number_in(mem, v);
-    let Some(k) = field_number(n) else {
-        return Err(Refusal::NoSuchNumber);
-    };
+    let k = field_number(n).ok_or(Refusal::NoSuchNumber)?;
     let place = place_of(mem, regs.line, k);
-    let Some(field) = line_value(mem, place) else {
-        return Err(Refusal::NoRoom);
-    };
+    let field = line_value(mem, place).ok_or(Refusal::NoRoom)?;
     Ok(replace_top(mem, regs, field))
 }

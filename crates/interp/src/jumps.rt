@@ -67,8 +67,6 @@ pub fn exit(mem: &Memory, regs: &Registers) -> Result<Turn, Refusal>
     ensures { came result ≡ exited (parts mem.now) regs.now }
 {
     let v = top(mem, regs);
-    match exit_number(number_in(mem, v)) {
-        Some(k) => Ok(Turn::Done(k)),
-        None => Err(Refusal::NoSuchNumber),
-    }
+    let k = exit_number(number_in(mem, v)).ok_or(Refusal::NoSuchNumber)?;
+    Ok(Turn::Done(k))
 }

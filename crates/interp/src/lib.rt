@@ -1,5 +1,7 @@
 // One turn of the machine in its lent memory: an operation of the program's code, or what comes between two lines. Memory and registers travel side by
-// side and in no struct: of a memory behind a field a proof doesn't know the length, and each method would have to promise that the loan stays the same.
+// side and in no struct: of a memory behind a field a proof doesn't know the length, and each method would have to promise that the loan stays the same. Each operation
+// answers a Turn, also one that is always followed by another: all have one shape of answer, so that `perform` hands it on and its contract is one equation
+// with the outcome that the definition names; an operation that answers `()` would need a case of its own in the definitions.
 #![tactic(auto)]
 
 pub mod between;
@@ -17,6 +19,9 @@ pub mod worth;
 
 ghost use Rattle.std.specs.Prelude.{◌≡◌};
 ghost use Rattle.interp.specs.Outcomes.{refusal_number};
+
+// The longest line and the longest text that the language has.
+pub const LONGEST: usize = 65_535;
 
 // What comes of a turn, unless it is refused. One that ends or is refused leaves memory and registers so that the same would come again; only that there
 // is no room may leave texts moved together.
@@ -49,7 +54,7 @@ pub enum Refusal {
 }
 
 impl Refusal {
-    // The number that is told.
+    // The number that is told. By name, and not by `From`: contracts read it as `refusal_number`.
     pub fn number(self) -> u64
         ensures { result ≡ refusal_number self }
     {

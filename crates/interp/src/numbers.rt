@@ -4,7 +4,7 @@ ghost use Rattle.values.specs.Numbers.{operation};
 ghost use Rattle.regions.specs.Parts.{parts};
 ghost use Rattle.store.specs.declared.cells.Value.TheVariants.{Number};
 ghost use Rattle.interp.specs.Outcomes.{came};
-ghost use Rattle.interp.specs.Turns.{says, under_of, top_of};
+ghost use Rattle.interp.specs.Turns.{says};
 ghost use Rattle.interp.specs.Numbers.{refusal_of, figured, figured_one};
 
 use crate::registers::Registers;
@@ -47,8 +47,6 @@ pub fn oppose(mem: &mut Memory, regs: &mut Registers) -> Result<Turn, Refusal>
 {
     let v = top(mem, regs);
     let a = number_in(mem, v);
-    match negate(a) {
-        Some(n) => Ok(replace_top(mem, regs, Value::Number(n))),
-        None => Err(Refusal::OutOfBounds),
-    }
+    let n = negate(a).ok_or(Refusal::OutOfBounds)?;
+    Ok(replace_top(mem, regs, Value::Number(n)))
 }

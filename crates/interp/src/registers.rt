@@ -1,5 +1,5 @@
 // The machine's registers, and how memory keeps them between steps.
-ghost use Rattle.std.specs.Prelude.{◌≡◌, ℕ, ◌^◌, ◌<◌, ◌++◌, length, slice_index};
+ghost use Rattle.std.specs.Prelude.{◌≡◌, ℕ, ◌^◌, ◌<◌, length, slice_index};
 ghost use Rattle.regions.specs.Parts.{parts, with_registers};
 ghost use Rattle.interp.specs.Registers.{stage_of, line_in, input_in, print_in, registers_in, row_of, saved_row, RegistersComeBack};
 
@@ -17,8 +17,9 @@ pub enum Stage {
     End,
 }
 
-// A print that is not finished: how many values it has, and how many of its bytes are out; none, where these are 0, which is how memory keeps it.
-#[derive(Clone, Copy)]
+// A print that is not finished: how many values it has (0 is the line), and how many of its bytes are out (0 is no print). Memory keeps two words, and the
+// definitions of prints speak of these two numbers; an Option would ask each of them for a case.
+#[derive(Clone, Copy, Default)]
 pub struct Print {
     pub values: usize,
     pub out: usize,
@@ -156,6 +157,8 @@ fn row_of(regs: Registers) -> [u64; ROW]
     ]
 }
 
+// A slice: with `&mut [u64; WORDS]` by `first_chunk_mut` this proves, but `save_registers` would have to prove of the lent chunk what a slice tells: its
+// length, and which words it has.
 fn save_row(words: &mut [u64], row: &[u64; ROW])
     requires { length words.old ≡ 64 }
     ensures saved { words.new ≡ saved_row row.now words.old }

@@ -10,7 +10,7 @@ ghost use Rattle.interp.specs.Texts.{text_in, joined_long, joined};
 use crate::registers::Registers;
 use crate::stack::{cover_two, top, under};
 use crate::worth::no_bytes;
-use crate::{Refusal, Turn};
+use crate::{LONGEST, Refusal, Turn};
 use regions::Memory;
 use regions::texts::{fill_text, join_text, new_handle, release_value, text_view};
 use store::bytes::Bytes;
@@ -21,10 +21,9 @@ use store::packed::{Packed, word_at};
 use store::short::{self, Short, low_bytes};
 use store::texts::Handle;
 
-// The longest text that the language has.
-const LONGEST: usize = 65_535;
-
-// How many bytes the text of a value has.
+// How many bytes the text of a value has. Here and wherever the text of a value is asked for, an arm for each view: an enum of the views that implements
+// `Bytes` was tried and proves, but it borrows memory, which `put_text` and engine's `lay_value` write; where a number is taken as one it saves an arm; and
+// it is asked which view it is at each byte.
 #[tactic(auto, unfolding(language::specs::Text::as_text))]
 pub fn text_len(mem: &Memory, v: Value) -> usize
     ensures { result ≡ length (text_in (parts mem.now) v) }
@@ -98,9 +97,7 @@ fn join_long(mem: &mut Memory, regs: &mut Registers, m: usize, size: usize) -> R
 {
     let first = under(mem, regs);
     let second = top(mem, regs);
-    let Some(handle) = new_handle(mem, size) else {
-        return Err(Refusal::NoRoom);
-    };
+    let handle = new_handle(mem, size).ok_or(Refusal::NoRoom)?;
     put_text(mem, handle, 0, first);
     put_text(mem, handle, m, second);
     release_value(mem, second);
