@@ -1,7 +1,9 @@
-// One turn of the machine in its lent memory: an operation of the program's code, or what comes between two lines. Memory and registers travel side by
-// side and in no struct: of a memory behind a field a proof doesn't know the length, and each method would have to promise that the loan stays the same. Each operation
-// answers a Turn, also one that is always followed by another: all have one shape of answer, so that `perform` hands it on and its contract is one equation
-// with the outcome that the definition names; an operation that answers `()` would need a case of its own in the definitions.
+// One turn of the machine in its lent memory: an operation of the program's code, or what comes between two lines.
+//
+// Memory and registers travel side by side and in no struct: of a memory behind a field a proof doesn't know the length, and each method would have to
+// promise that the loan stays the same. Each operation answers a Turn, also one that is always followed by another: all have one shape of answer, so that
+// `perform` hands it on and its contract is one equation with the outcome that the definition names; an operation that answers `()` would need a case of
+// its own in the definitions.
 #![tactic(auto)]
 
 pub mod between;
