@@ -162,6 +162,7 @@ pub enum Class {
     Other,
 }
 
+// What begins with this byte. By a name of its own and not `From<u8>`: that would say of bytes in general what is so only of a token's first.
 fn begins(c: u8) -> Class
     ensures { result ≡ class_of c }
 {
