@@ -103,7 +103,7 @@ fn digits_from<T: Bytes>(t: &T, from: usize) -> (u64, usize)
         if !is_digit(b) {
             return (n, k);
         }
-        n = 10 * n + (b - b'0') as u64;
+        n = 10 * n + u64::from(b - b'0');
     }
     (n, count)
 }

@@ -18,10 +18,10 @@ pub overflow_mul-n : goal.overflow_mul-n
 overflow_mul-n g c = omega (arith, under c.loop-k.k c.loop-k.n (omega arith) c.loop-k.invariant.0)
 
 pub overflow_add-n : goal.overflow_add-n
-overflow_add-n g c = omega (arith, under c.loop-k.k c.loop-k.n (omega arith) c.loop-k.invariant.0)
+overflow_add-n g c = rw c.from.ensures (omega (arith, digit_low c.at-b.result (sym c.if-not-is_digit.ensures), under c.loop-k.k c.loop-k.n (omega arith) c.loop-k.invariant.0))
 
 pub loop-k-preserved : goal.loop-k-preserved
-loop-k-preserved g c = (
+loop-k-preserved g c = rw c.from.ensures (
   rw (add-one, pow-suc) (omega (arith, c.loop-k.invariant.0, digit_low c.at-b.result (sym c.if-not-is_digit.ensures))),
   c.loop-k.invariant.1
       ∙ lead_more (g.T.Bytes.bytes c.args.t.now) c.args.from c.loop-k.k c.loop-k.n (omega arith) (omega arith) (ap digit (sym c.at-b.ensures) ∙ sym c.if-not-is_digit.ensures)
