@@ -53,7 +53,8 @@ pub fn perform(mem: &mut Memory, regs: &mut Registers, op: Op) -> Result<Turn, R
     }
 }
 
-// One turn, where the operation is none that is done elsewhere: that of a machine without prints, beside engine's, which has them.
+// One turn, where the operation is none that is done elsewhere: that of a machine without prints. It is promised to
+// callers, and stays beside engine's, which has prints.
 #[tactic(auto, unfolding(crate::specs::Dispatch::turned))]
 pub fn turn(mem: &mut Memory, regs: &mut Registers) -> Result<Turn, Refusal>
     ensures { says (came result) (parts mem.new) regs.new ≡ turned (parts mem.old) regs.old }

@@ -21,9 +21,9 @@ use store::packed::{Packed, word_at};
 use store::short::{self, Short, low_bytes};
 use store::texts::Handle;
 
-// How many bytes the text of a value has. Here and wherever the text of a value is asked for, an arm for each view: an enum of the views that implements
-// `Bytes` was tried and proves, but it borrows memory, which `put_text` and engine's `lay_value` write; where a number is taken as one it saves an arm; and
-// it is asked which view it is at each byte.
+// How many bytes the text of a value has. Here and wherever the text of a value is asked for there is an arm for each view. An enum of the views that
+// implements `Bytes` was tried and proves, but is no plainer: it borrows memory, which `put_text` and engine's `lay_value` write; where a number is taken as
+// one, that keeps its arm; and it is asked at each byte which view it is.
 #[tactic(auto, unfolding(language::specs::Text::as_text))]
 pub fn text_len(mem: &Memory, v: Value) -> usize
     ensures { result ≡ length (text_in (parts mem.now) v) }
