@@ -13,7 +13,7 @@ use interp::registers::Registers;
 use interp::{Refusal, Turn, dispatch};
 use regions::Memory;
 
-// An operation.
+// An operation: a match on a closed kind and no table of functions.
 fn perform(mem: &mut Memory, regs: &mut Registers, op: Op, out: &mut [u8]) -> Result<Turn, Refusal>
     requires { 4096 ≤ length out.old }
     ensures did { says (came result) (parts mem.new) regs.new ≡ performed op (parts mem.old) regs.old }

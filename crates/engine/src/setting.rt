@@ -65,7 +65,7 @@ fn lay_chunk(mem: &mut Memory, h: Handle, at: usize, to: usize)
     put_text(mem, to, &Lent { piece: &row[0..n] });
 }
 
-// The bytes of a text go into the region of lines, from byte `to` on.
+// The bytes of a text go into the region of lines, from byte `to` on. Beside interp's `copy_line`, which goes the other way.
 fn lay_text(mem: &mut Memory, h: Handle, to: usize)
     requires { to < 2 ^ 63 }
     ensures { parts mem.new ≡ with_lines (parts mem.old) (put_bytes (parts mem.old).lines to (text_of 77822 (parts mem.old).texts h.index)) }

@@ -26,7 +26,7 @@ pub fn fetch(mem: &Memory, regs: &Registers) -> Op
     Op::from(code_at(mem, regs.pc))
 }
 
-// An operation. Prints and the setting of fields are done elsewhere, and are unknown here.
+// An operation: a match on a closed kind and no table of functions. Prints and the setting of fields are done elsewhere, and are unknown here.
 pub fn perform(mem: &mut Memory, regs: &mut Registers, op: Op) -> Result<Turn, Refusal>
     ensures { says (came result) (parts mem.new) regs.new ≡ performed op (parts mem.old) regs.old }
 {
@@ -53,8 +53,8 @@ pub fn perform(mem: &mut Memory, regs: &mut Registers, op: Op) -> Result<Turn, R
     }
 }
 
-// One turn, where the operation is none that is done elsewhere: that of a machine without prints. It is promised to
-// callers, and stays beside engine's, which has prints.
+// One turn, where the operation is none that is done elsewhere: that of a machine without prints. It is promised to callers, and stays beside engine's, which
+// has prints, till the machine works by that.
 #[tactic(auto, unfolding(crate::specs::Dispatch::turned))]
 pub fn turn(mem: &mut Memory, regs: &mut Registers) -> Result<Turn, Refusal>
     ensures { says (came result) (parts mem.new) regs.new ≡ turned (parts mem.old) regs.old }

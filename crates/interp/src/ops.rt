@@ -1,4 +1,4 @@
-// Operations of the code, a word each.
+// Operations of the code, a word each: memory is lent and made of words, so an opcode stands there as a number, and only `From` reads it.
 ghost use Rattle.std.specs.Prelude.{◌≡◌};
 ghost use Rattle.assembly.specs.Assembly.{op_of};
 ghost use Rattle.interp.specs.Ops.{op_in, one_of, two_of};
@@ -49,6 +49,7 @@ pub enum Op {
 // Opcodes are below this number, and the number that goes with one is so many times it.
 const OPCODES: u64 = 64;
 
+// This and the next by name: an operator's number is no word, and there is one `From<u64> for Op`.
 #[tactic(auto, unfolding(crate::specs::Ops::one_of))]
 fn on_one(k: u64) -> Op
     ensures { result ≡ one_of k }

@@ -52,6 +52,7 @@ const ROW: usize = 18;
 
 const WORDS: usize = 64;
 
+// In memory a stage is a number, as all is there.
 impl From<u64> for Stage {
     ghost from_gives = { λ n stage. stage ≡ stage_of n };
 

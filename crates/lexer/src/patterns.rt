@@ -43,7 +43,8 @@ fn past_span(text: &[u8], i: usize) -> usize
     }
 }
 
-// Where a set ends, of what follows [ or [^, unless it has no closing ]; a ] that stands first is itself.
+// Where a set ends, of what follows [ or [^, unless it has no closing ]; a ] that stands first is itself. A loop, as in the other two that read a pattern: how
+// far a step goes is said by what stands there.
 fn past_set(text: &[u8], from: usize) -> Option<usize>
     ensures { SetEnds text.now from result }
 {

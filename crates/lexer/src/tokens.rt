@@ -139,7 +139,7 @@ fn past_line(text: &[u8], from: usize) -> usize
     }
 }
 
-// Where the quoted text ends whose bytes begin at `from`: behind its closing quote, if it has one.
+// Where the quoted text ends whose bytes begin at `from`: behind its closing quote, if it has one. A loop: how far a step goes is said by what stands there.
 fn past_quote(text: &[u8], from: usize) -> Option<usize>
     requires { from ≤ length text.now }
     ensures { QuoteEnded text.now from result }
@@ -363,7 +363,7 @@ fn piece_at(text: &[u8], i: usize) -> Piece
     }
 }
 
-// Kinds of cells that hold tokens.
+// Kinds of cells that hold tokens. They are numbers: the area is lent and made of words, and only the two `From` below write and read them.
 const NAME: u64 = 1;
 
 const KEYWORD: u64 = 2;
@@ -426,7 +426,8 @@ impl From<Cell> for Token {
     }
 }
 
-// Cuts a program's text into tokens, in the first cells, and says how many they are. A loop: an iterator would be a type for this one use.
+// Cuts a program's text into tokens, in the first cells, and says how many they are. A loop: each piece says where the next begins,
+// and an iterator would be a type for this one use.
 pub fn cut(text: &[u8], work: &mut Work) -> usize
     requires { length text.now ≤ 4096 }
     ensures { TokensIn text.now work.new result }

@@ -576,7 +576,8 @@ pub struct Parsed {
     pub nodes: usize,
 }
 
-// Reads an expression from a place on, unless there is none.
+// Reads an expression from a place on, unless there is none. A match on a closed kind, in a loop. `Start` here and `Room` above are names of facts about a spot:
+// bounds that a public function asks for, or that depend on where an operand began.
 pub fn read_term(
     text: &[u8],
     work: &mut Work,

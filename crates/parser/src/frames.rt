@@ -1,4 +1,5 @@
-// The stack of an expression that is being read: what was begun and waits for an operand. It is cells, with its depth beside: the area is lent and fixed, without a heap.
+// The stack of an expression that is being read: what was begun and waits for an operand. It is cells, with its depth beside: the area is lent and fixed,
+// without a heap.
 ghost use Rattle.std.specs.Prelude.{◌≡◌, ◌+◌, ◌≤◌, length};
 ghost use Rattle.lexer.specs.Memory.{cell};
 ghost use Rattle.parser.specs.Frames.{frame_of, Pushed};
@@ -61,7 +62,7 @@ pub enum Turn {
     Done(Spot, usize),
 }
 
-// Kinds of cells that hold frames.
+// Kinds of cells that hold frames. They are numbers: the area is lent and made of words, and only the two `From` below write and read them.
 const INFIX: u64 = 100;
 
 const PREFIXED: u64 = 101;

@@ -1,4 +1,5 @@
-// Expressions as nodes, a cell each: the area is lent and fixed, without a heap, so parts are named by numbers and not held in boxes. A node stands behind its parts and is never changed, so what is represented stays so.
+// Expressions as nodes, a cell each: the area is lent and fixed, without a heap, so parts are named by numbers and not held in boxes. A node stands behind
+// its parts and is never changed, so what is represented stays so.
 ghost use Rattle.std.specs.Prelude.{◌≡◌, ◌<◌, length, ◌==◌};
 ghost use Rattle.lexer.specs.Memory.{cell, Stored};
 ghost use Rattle.parser.specs.Nodes.{operator_of, prefix_of, term_of, list_of, bit, Made, Listed, a_place};
@@ -98,7 +99,8 @@ impl From<Operator> for u64 {
     }
 }
 
-// Any other number is the last one: none may fail, since the area may hold anything and `operator_of` answers all. A table of all, which a keyword is read by, would be as long as the arms and serve nothing else.
+// Any other number is the last one: none may fail, since the area may hold anything and `operator_of` answers all. A
+// table of all, which a keyword is read by, would be as long as the arms and serve nothing else, and impls by a macro of the repository's own are refused.
 impl From<u64> for Operator {
     ghost from_gives = { λ n o. o ≡ operator_of n };
 
@@ -145,7 +147,7 @@ impl From<u64> for Prefix {
     }
 }
 
-// Kinds of cells that hold expressions and lists of them.
+// Kinds of cells that hold expressions and lists of them. They are numbers: the area is lent and made of words, and only the `From` below write and read them.
 const NUMBER: u64 = 10;
 
 const TEXT: u64 = 11;
@@ -276,8 +278,9 @@ fn put(work: &mut Work, i: usize, c: Cell, plain: bool)
     );
 }
 
-// Writes a node of an expression; the flag says whether all of it is of the core. The length is promised besides the type, as by `push`. That lists have functions of
-// their own is no plainer otherwise: what is written is said by two records, `Made` and `Listed`, for which one function would want a trait just for them.
+// Writes a node of an expression; the flag says whether all of it is of the core. The length is promised besides the type, as by `push`. That lists have
+// functions of their own is no plainer otherwise: what is written is said by two records, `Made` and `Listed`, for which one function would want a trait just
+// for them.
 pub fn put_term(work: &mut Work, i: usize, node: TermNode, plain: bool)
     requires { i < 25600 }
     ensures made { Made work.old work.new i node plain }

@@ -13,6 +13,7 @@ const FROM: usize = 53_440;
 
 const HALF: u64 = 1 << 32;
 
+// A place as a word, by name and not by `From`: it loses what is beyond 32 bits, and is the format of this region alone.
 fn word_of(place: Place) -> u64
     ensures { result ≡ place_word place }
 {

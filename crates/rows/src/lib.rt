@@ -92,7 +92,7 @@ fn end_print(pen: &mut Pen, used: usize, done: usize) -> Printed
 }
 
 // `done`, `out` and `used` of the next two are a pen's parts and not a pen: their signatures are for the caller who lends the row, and they make the pen; `out` is
-// no array of 4,096, since the row that is lent may be longer.
+// no array of 4,096, since the row that is lent may be longer. What the two share is the making of the pen and its end; what is written between differs.
 
 // Writes the n topmost values of a stack of this depth, from byte `done` of the print on, as far as the row has room behind the bytes that are
 // used.

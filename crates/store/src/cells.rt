@@ -30,7 +30,7 @@ const SHORT: u64 = 3;
 
 const LONGEST_SHORT: u64 = 11;
 
-// What a kind and what stands with it say; Unset where there is no such kind.
+// What a kind and what stands with it say; Unset where there is no such kind. By name: two words are no type that `From` could take.
 fn value_of(kind: u64, payload: u64) -> Value
     ensures { result ≡ decode kind payload }
 {

@@ -19,7 +19,7 @@ fn words_out<T: Bytes>(t: &T, from: usize, n: usize, out: &mut [u8], at: usize)
     }
 }
 
-// Copies n bytes of t, from byte `from` of it on, one by one.
+// Copies n bytes of t, from byte `from` of it on, one by one: those that are left behind the last whole word.
 fn bytes_out<T: Bytes>(t: &T, from: usize, n: usize, out: &mut [u8], at: usize)
     requires { (from + n ≤ length (T.Bytes.bytes t.now)) × ((from + n < 2 ^ 64) × (at + n ≤ length out.old)) }
     ensures { out.new ≡ paste out.old at (drop from (T.Bytes.bytes t.now)) n }

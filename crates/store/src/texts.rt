@@ -1,5 +1,5 @@
 // Texts in a region of lent memory, by handles, with counts of their holders. Blocks are taken from the top, and given back when no one holds them;
-// where the top has no room, the blocks are first moved together.
+// where the top has no room, the blocks are first moved together. Memory is lent and fixed, without a heap, so a text is a block and no String.
 ghost use Rattle.std.specs.Prelude.{◌≡◌, ℕ, ◌+◌, ◌-◌, ◌*◌, ◌<◌, ◌≤◌, min, length, drop, nat_le, slice_index};
 ghost use Rattle.std.proofs.Math.Seq.{paste};
 ghost use Rattle.store.specs.Words.{window};

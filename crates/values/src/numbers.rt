@@ -36,7 +36,7 @@ fn in_bounds(z: i128) -> Option<i64>
     }
 }
 
-// Each of the next four answers None where the result is out of bounds.
+// Each of the next four answers None where the result is out of bounds. They share `in_bounds` alone.
 
 pub fn add(a: i64, b: i64) -> Option<i64>
     ensures { judged result ≡ within (sum (number a) (number b)) }
@@ -92,7 +92,7 @@ pub fn divide(a: i64, b: i64) -> Result<i64, Trouble>
     in_bounds(quotient_of(a, b)).ok_or(Trouble::TooLarge)
 }
 
-// The remainder, if it is one of them.
+// The remainder, if it is one of them. It shares with `divide` the test for 0 alone.
 pub fn remainder(a: i64, b: i64) -> Result<i64, Trouble>
     ensures { (s : State) → divided result s ≡ left_over_got (number a) (number b) s }
 {
