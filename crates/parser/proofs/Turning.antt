@@ -6,6 +6,8 @@ use Rattle.lexer.specs.Memory.{Kept}
 use Rattle.parser.specs.Frames.{Stack, resume, Met, Room, Roomy, Falls, Spends, Pays}
 use Rattle.lexer.specs.Places.{fuel, toks, Ready}
 use Rattle.parser.specs.Parsing.{Start, TermGot, left}
+use Rattle.parser.specs.Readers.{Same}
+use Rattle.parser.specs.declared.expressions.Reader.{Reader}
 use Rattle.parser.specs.declared.frames.Spot.{Spot}
 use Rattle.parser.specs.declared.frames.Turn.{Turn}
 use Rattle.parser.specs.declared.frames.Turn.TheVariants.{Operand, After, Done}
@@ -57,6 +59,21 @@ far_on bs m₀ m m₁ count place nodes extra e s t r P l few room h paid g f =
       room = less_room count nodes s.nodes r room.grown room.low g.goes.room;
       spends = spends_on count nodes s.nodes e (count - place) r paid g.spends;
       meets = g.goes.meets (term (fuel bs) (toks bs place)) (h (term (fuel bs) (toks bs place)) f.meets);
+    }
+
+-- one turn more of a reader that stays the same; t₁ is the turn that it stood at, by its constructor
+pub turn_on : (r₀ r r₁ : Reader) (place nodes extra e : ℕ) (s : Spot) (t t₁ u : Turn) (P : Reads Term → Type 0) → r₀.count ≤ 4096 → t ≡ t₁ → Same r₀ r → Same r r₁ →
+    (Roomy r₀.count nodes (Some t₁) → Room r₀.count nodes extra s) →
+    (Spends r₀.count nodes (6 * (r₀.count - place)) (Some t₁) → 2 * s.nodes + e ≤ 2 * nodes + 6 * (r₀.count - place) + 1) →
+    ((g : Reads Term) → Met r₀.text.now r.work.now (Some t₁) g → P g) →
+    Pays r₀.text.now r.work.now r₁.work.now r₀.count s.nodes e P (Some u) →
+    Far r₀.text.now r₀.work.now r.work.now r₀.count place nodes t →
+    record { same : Same r₀ r₁; far : Far r₀.text.now r₀.work.now r₁.work.now r₀.count place nodes u }
+turn_on r₀ r r₁ place nodes extra e s t t₁ u P few is x y room paid h pays far =
+    let f = subst (λ z. Far r₀.text.now r₀.work.now r.work.now r₀.count place nodes z) is far in
+    record {
+      same = record { text = y.text ∙ x.text; area = y.area ∙ x.area; count = y.count ∙ x.count };
+      far = far_on r₀.text.now r₀.work.now r.work.now r₁.work.now r₀.count place nodes extra e s t₁ u P (r₁.ready.long ∙ sym r.ready.long) few (room f.room) h (paid f.spends) pays f;
     }
 
 pub falls_left : (count e : ℕ) (r : Turn) → Falls count e (Some r) → left count r < e + 1

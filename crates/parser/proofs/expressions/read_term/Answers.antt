@@ -1,6 +1,6 @@
-use Rattle.std.proofs.Common.{◌+◌, ◌∙◌, refl, sym, subst, arith}
+use Rattle.std.proofs.Common.{◌+◌, refl, arith}
 use Rattle.parser.specs.Frames.{effort, Before, Behind}
-use Rattle.parser.proofs.Turning.{Far, far_start, far_on}
+use Rattle.parser.proofs.Turning.{far_start, turn_on}
 use Rattle.parser.proofs.expressions.read_term.Goals as goal
 
 pub loop-turn-init : goal.loop-turn-init
@@ -12,25 +12,15 @@ loop-turn-init c = record {
 pub loop-turn-preserved-in-Operand : goal.loop-turn-preserved-in-Operand
 loop-turn-preserved-in-Operand c =
     let i = c.loop-turn.invariant in
-    let a = c.args in
     let s = c.in-Operand.s in
     let y = c.in_ok-turn-in-Operand.ensures in
-    let m = c.loop-turn.reader.work.now in
-    let f = subst (λ t. Far a.text.now a.work.now m a.count a.place a.nodes t) c.in-Operand.is i.far in
-    record {
-      same = record { text = y.same.text ∙ i.same.text; area = y.same.area ∙ i.same.area; count = y.same.count ∙ i.same.count };
-      far = far_on a.text.now a.work.now m c.begin.new.self.work.now a.count a.place a.nodes 0 (effort a.count s) s _ c.in_ok-turn-in-Operand.turn (Before a.text.now m s) (c.begin.new.self.ready.long ∙ sym c.loop-turn.reader.ready.long) c.requires.start.few f.room (λ g x. x) (omega (arith, f.spends)) (rw (i.same.text, i.same.count) at y.pays) f;
-    }
+    turn_on _ _ _ _ _ 0 (effort c.args.count s) s _ _ _ (Before c.args.text.now c.loop-turn.reader.work.now s) c.requires.start.few c.in-Operand.is i.same y.same
+    (λ x. x) (λ x. omega (arith, x)) (λ g x. x) (rw (i.same.text, i.same.count) at y.pays) i.far
 
 pub loop-turn-preserved : goal.loop-turn-preserved
 loop-turn-preserved c =
     let i = c.loop-turn.invariant in
-    let a = c.args in
     let s = c.in-After.s in
     let y = c.in_ok-turn-in-After.ensures in
-    let m = c.loop-turn.reader.work.now in
-    let f = subst (λ t. Far a.text.now a.work.now m a.count a.place a.nodes t) c.in-After.is i.far in
-    record {
-      same = record { text = y.same.text ∙ i.same.text; area = y.same.area ∙ i.same.area; count = y.same.count ∙ i.same.count };
-      far = far_on a.text.now a.work.now m c.go_on.new.self.work.now a.count a.place a.nodes 1 (effort a.count s + 3) s _ c.in_ok-turn-in-After.turn (Behind a.text.now m s c.in-After.node c.in-After.high) (c.go_on.new.self.ready.long ∙ sym c.loop-turn.reader.ready.long) c.requires.start.few f.room (λ g x. x) (omega (arith, f.spends)) (rw (i.same.text, i.same.count) at y.pays) f;
-    }
+    turn_on _ _ _ _ _ 1 (effort c.args.count s + 3) s _ _ _ (Behind c.args.text.now c.loop-turn.reader.work.now s c.in-After.node c.in-After.high) c.requires.start.few c.in-After.is
+    i.same y.same (λ x. x) (λ x. omega (arith, x)) (λ g x. x) (rw (i.same.text, i.same.count) at y.pays) i.far
