@@ -1,5 +1,5 @@
 -- What the world outside does with the ends of files, and what is said at the end of a run. Assumes nothing: these are definitions.
-use Rattle.std.specs.Prelude.{◌≡◌, ℕ, zero, suc, ◌≤◌, Bool, true, false, not, List, [], ◌∷◌, ◌++◌, codes, decimal, ◌==◌, slice_index, Option, None, Some, Result, Ok, Err}
+use Rattle.std.specs.Prelude.{◌≡◌, ℕ, zero, suc, ◌≤◌, Bool, true, false, not, List, [], ◌∷◌, ◌++◌, codes, decimal, ◌==◌, length, slice_index, Option, None, Some, Result, Ok, Err}
 use Rattle.machine.specs.declared.drive.Failure.{Failure}
 use Rattle.machine.specs.declared.drive.Failure.TheVariants.{Refused, TooLong, Broken, Endless, NoMemory}
 use Rattle.console.specs.declared.Trouble.{Trouble}
@@ -17,10 +17,10 @@ left_open before into zero = before
 left_open before into (suc n) = not (slice_index into n == 10)
 
 -- the end of a file: a line that was left open is ended by byte 10, as a piece of its own
-abbrev pub Closes : Bool → List ℕ → (n : ℕ) → List ℕ → Bool → Type 0
-Closes false into n into₁ still = (n ≡ 0) × (into₁ ≡ into) × (still ≡ false)
-Closes true [] n into₁ still = (n ≡ 0) × (into₁ ≡ []) × (still ≡ true)
-Closes true (b ∷ bs) n into₁ still = (n ≡ 1) × (into₁ ≡ 10 ∷ bs) × (still ≡ false)
+abbrev pub Closes : Bool → List ℕ → Option ℕ → List ℕ → Bool → Type 0
+Closes false into r into₁ still = (r ≡ Some 0) × (into₁ ≡ into) × (still ≡ false)
+Closes true [] r into₁ still = (r ≡ Some 0) × (into₁ ≡ []) × (still ≡ true)
+Closes true (b ∷ bs) r into₁ still = (r ≡ Some 1) × (into₁ ≡ 10 ∷ bs) × (still ≡ false)
 
 -- what failed outside
 abbrev pub failure : Trouble → List ℕ
@@ -37,3 +37,7 @@ said (Err TooLong) = codes "refused 1"
 said (Err (Broken t)) = failure t
 said (Err Endless) = codes "failed: no end"
 said (Err NoMemory) = codes "failed: no memory"
+
+-- whether that is nothing
+abbrev pub silent : Result ℕ (Failure Trouble) → Bool
+silent e = length (said e) == 0

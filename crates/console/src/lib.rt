@@ -3,14 +3,15 @@
 
 ghost use Rattle.std.specs.Prelude.{◌≡◌, length, Some};
 ghost use Rattle.machine.specs.Drive.{Account};
-ghost use Rattle.console.specs.Console.{Few, left_open, Closes, failure, said};
+ghost use Rattle.console.specs.Console.{Few, left_open, Closes, failure, said, silent};
 
 use machine::drive::{Failure, World, drive};
+use std::collections::VecDeque;
 use std::error::Error;
 use std::fs::File;
 use std::io::{Read, Write};
 use std::process::ExitCode;
-use std::{env, fmt, fs, vec};
+use std::{env, fmt, fs};
 
 // Where the next bytes come from.
 #[derive(Drop)]
@@ -47,6 +48,15 @@ impl Error for Trouble {}
 #[derive(Drop)]
 struct Verdict(Result<u64, Failure<Trouble>>);
 
+impl Verdict {
+    // Whether nothing is said.
+    fn is_silent(&self) -> bool
+        ensures { result ≡ silent self.now.0 }
+    {
+        matches!(self.0, Ok(0))
+    }
+}
+
 impl fmt::Display for Verdict {
     ghost output = { λ v. Some (said v.0) };
 
@@ -67,8 +77,8 @@ impl fmt::Display for Verdict {
 #[derive(Drop)]
 pub struct Console<'a> {
     rt: &'a HostRuntime,
-    // The files that aren't opened yet.
-    names: vec::IntoIter<String>,
+    // The files that aren't opened yet: one that can't be stays the next.
+    names: VecDeque<String>,
     source: Source,
     // Whether the last byte that came was no line's end.
     open_line: bool,
@@ -83,7 +93,7 @@ impl<'a> Console<'a> {
         };
         Console {
             rt,
-            names: names.into_iter(),
+            names: VecDeque::from(names),
             source,
             open_line: false,
         }
@@ -93,34 +103,37 @@ impl<'a> Console<'a> {
     fn open_next(&mut self) -> Result<Option<usize>, Trouble>
         ensures { Few result 0 }
     {
-        let Some(name) = self.names.next() else {
+        let Some(name) = self.names.front() else {
             return Ok(None);
         };
-        let file = File::open(self.rt, &name).map_err(|_| Trouble::Opening)?;
+        let file = File::open(self.rt, name).map_err(|_| Trouble::Opening)?;
+        let _opened = self.names.pop_front();
         self.source = Source::Open(file);
         Ok(Some(0))
     }
 
-    // These bytes came: whether a line was left open is seen at the last of them.
-    fn came(&mut self, bytes: &[u8])
-        ensures { self.new.open_line ≡ left_open self.old.open_line bytes.now (length bytes.now) }
+    // These bytes came, and all of them are the piece: whether a line was left open is seen at the last.
+    fn came(&mut self, bytes: &[u8]) -> Option<usize>
+        ensures piece { result ≡ Some (length bytes.now) }
+        ensures line { self.new.open_line ≡ left_open self.old.open_line bytes.now (length bytes.now) }
     {
         if let Some(last) = bytes.last() {
             self.open_line = *last != b'\n';
         }
+        Some(bytes.len())
     }
 
     // A file has ended: a line never goes across two files, so one that was left open is ended.
-    fn end_file(&mut self, into: &mut [u8]) -> usize
+    fn end_file(&mut self, into: &mut [u8]) -> Option<usize>
         ensures { Closes self.old.open_line into.old result into.new self.new.open_line }
     {
         self.source = Source::Closed;
         if !self.open_line || into.is_empty() {
-            return 0;
+            return Some(0);
         }
         self.open_line = false;
         into[0] = b'\n';
-        1
+        Some(1)
     }
 }
 
@@ -138,11 +151,8 @@ impl World for Console<'_> {
                 n => Ok(Some(n)),
             },
             Source::Open(file) => match file.read(into).map_err(|_| Trouble::Reading)? {
-                0 => Ok(Some(self.end_file(into))),
-                n => {
-                    self.came(&into[..n]);
-                    Ok(Some(n))
-                }
+                0 => Ok(self.end_file(into)),
+                n => Ok(self.came(&into[..n])),
             },
         }
     }
@@ -190,12 +200,10 @@ pub fn run(rt: &HostRuntime, called: Option<Command>, usage: &str) -> anyhow::Re
         println!(rt; "{usage}")?;
         return Ok(ExitCode::SUCCESS);
     };
-    let ending = drive(&mut Console::new(rt, names), rt.alloc(), program.as_slice());
-    // Of this ending nothing is said, and the status is another.
-    if ending == Ok(0) {
+    let verdict = Verdict(drive(&mut Console::new(rt, names), rt.alloc(), program.as_slice()));
+    if verdict.is_silent() {
         return Ok(ExitCode::SUCCESS);
     }
-    let verdict = Verdict(ending);
     eprintln!(rt; "{verdict}")?;
     Ok(ExitCode::FAILURE)
 }

@@ -46,3 +46,14 @@ fn nothing_is_known_yet(rt: HostRuntime) {
     );
     assert_eq!(rt; tape.shown.len(), 0);
 }
+
+// A caller that asks again is told again, and the file isn't passed over.
+#[test]
+fn a_file_that_is_missing_stays_the_next(rt: HostRuntime) {
+    let name = String::from_str(rt.alloc(), "missing").expect(&rt, "there is room");
+    let names = vec![in rt.alloc(); name].expect(&rt, "there is room");
+    let mut console = Console::new(&rt, names);
+    let mut piece = [0u8; 8];
+    assert_eq!(rt; console.piece(&mut piece), Err(Trouble::Opening));
+    assert_eq!(rt; console.piece(&mut piece), Err(Trouble::Opening));
+}

@@ -91,7 +91,7 @@ act_of (Write n) row = write (take n row)
 act_of (Done k) row = done k
 act_of (No k) row = refused k
 
-act_is : (act : Act) (told : Told) (out row : List ℕ) → ActTold act told out row → act ≡ act_of told row
+pub act_is : (act : Act) (told : Told) (out row : List ℕ) → ActTold act told out row → act ≡ act_of told row
 unfolding ActTold
 act_is more told out row h = rw h.0
 act_is (write bs) told out row h = rw (h.0, h.1) (ap write (sym (take_at bs (drop (length bs) out) _ refl)))
