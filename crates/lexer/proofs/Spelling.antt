@@ -1,46 +1,42 @@
--- Equal spellings, as a test, and which reserved word a word is.
-use Rattle.std.proofs.Common.{◌≡◌, ℕ, Bool, true, false, ◌∙◌, ◌&&◌, cond, eqb, eqb-true, List, [], ◌∷◌, get_or, suc, ◌+◌, ◌-◌, ◌≤◌, Some, None, Option, sym, refl, ap, arith}
-use lib.Pointwise.{pointwise}
-use Rattle.std.specs.List.{find}
-use Rattle.std.specs.Option.{option_map}
+-- Equal spellings, as a test, and the reserved words by their numbers.
+use Rattle.std.proofs.Common.{◌≡◌, ℕ, Bool, true, false, ◌∙◌, ◌&&◌, eqb, eqb-true, eq-eqb, ne_eqb, List, [], ◌∷◌, length, get_or, drop, drop-cons, suc, ◌+◌, ◌-◌, ◌<◌, ◌≤◌, add-one, sym, refl, ap, arith}
+use Rattle.std.proofs.lemmas.List.{drop_all}
 use borrow.Author.Tests.{eqb-false}
-use Rattle.language.specs.Text.{pick, or, any, same}
+use Rattle.language.specs.Text.{pick, same}
 use Rattle.language.proofs.Lists.{same_is}
-use Rattle.lexer.specs.Marks.{spelled, KeywordIs, keyword_at}
+use Rattle.lexer.specs.Marks.{keyword_at}
 use Rattle.lexer.specs.declared.tokens.Keyword.{Keyword}
 use Rattle.lexer.specs.declared.tokens.Keyword.TheVariants.{Begin, End, Function, If, Else, While, For, In, Print, Next, Exit, Delete, Return, Length, Upper, Index, Substr, Split, Swap}
 
-pub same_pointwise : (xs ys : List ℕ) → pointwise eqb xs ys ≡ same xs ys
+pub differ_in_length : (xs ys : List ℕ) → (length xs ≡ length ys → ⊥) → false ≡ same xs ys
 unfolding same
-same_pointwise [] [] = refl
-same_pointwise [] (y ∷ ys) = refl
-same_pointwise (x ∷ xs) [] = refl
-same_pointwise (x ∷ xs) (y ∷ ys) = ap (λ r. eqb x y && r) (same_pointwise xs ys)
-
-word_found : (w : List ℕ) (ks : List Keyword) (k : Keyword) → find (λ j. same w (spelled j)) ks ≡ Some k → w ≡ spelled k
-word_found w [] k e = cc
-word_found w (j ∷ ks) k e = go (word_found w ks k) (same w (spelled j)) refl e
+differ_in_length [] [] h = absurd (h refl)
+differ_in_length [] (y ∷ ys) h = refl
+differ_in_length (x ∷ xs) [] h = refl
+differ_in_length (x ∷ xs) (y ∷ ys) h = go (eqb x y) (differ_in_length xs ys (λ e. h (ap suc e)))
   where
-    go : (find (λ j. same w (spelled j)) ks ≡ Some k → w ≡ spelled k) → (b : Bool) → same w (spelled j) ≡ b → cond b (Some j) (find (λ j. same w (spelled j)) ks) ≡ Some k → w ≡ spelled k
-    go h true t e = let i : j ≡ k = cc in same_is w (spelled j) t ∙ ap spelled i
-    go h false t e = h e
+    go : (b : Bool) → false ≡ same xs ys → false ≡ (b && same xs ys)
+    go true e = e
+    go false e = refl
 
-word_missing : (w : List ℕ) (ks : List Keyword) → find (λ j. same w (spelled j)) ks ≡ None → any (λ j. same w (spelled j)) ks ≡ false
-word_missing w [] e = refl
-word_missing w (j ∷ ks) e = go (word_missing w ks) (same w (spelled j)) e
-  where
-    go : (find (λ j. same w (spelled j)) ks ≡ None → any (λ j. same w (spelled j)) ks ≡ false) → (b : Bool) → cond b (Some j) (find (λ j. same w (spelled j)) ks) ≡ None → or b (any (λ j. same w (spelled j)) ks) ≡ false
-    go h true e = cc
-    go h false e = h e
+pub differ_here : (xs ys : List ℕ) (i : ℕ) → i < length xs → i < length ys → (get_or xs i 0 ≡ get_or ys i 0 → ⊥) → same (drop i xs) (drop i ys) ≡ false
+unfolding same
+differ_here xs ys i h k n = rw (drop-cons xs i 0 h, drop-cons ys i 0 k, ne_eqb (get_or xs i 0) (get_or ys i 0) n) refl
+
+pub same_here : (xs ys : List ℕ) (i : ℕ) → i < length xs → i < length ys → get_or xs i 0 ≡ get_or ys i 0 → same (drop i xs) (drop i ys) ≡ same (drop (i + 1) xs) (drop (i + 1) ys)
+unfolding same
+same_here xs ys i h k e = rw (drop-cons xs i 0 h, drop-cons ys i 0 k, eq-eqb (get_or xs i 0) (get_or ys i 0) e, add-one i) refl
+
+pub same_done : (xs ys : List ℕ) (i : ℕ) → length xs ≤ i → length ys ≤ i → same (drop i xs) (drop i ys) ≡ true
+unfolding same
+same_done xs ys i h k = rw (drop_all i xs h, drop_all i ys k) refl
+
+pub spelled_same : (w p : List ℕ) → true ≡ same w p → w ≡ p
+spelled_same w p e = same_is w p (sym e)
 
 -- all the reserved words
 abbrev pub all : List Keyword
 all = Begin ∷ End ∷ Function ∷ If ∷ Else ∷ While ∷ For ∷ In ∷ Print ∷ Next ∷ Exit ∷ Delete ∷ Return ∷ Length ∷ Upper ∷ Index ∷ Substr ∷ Split ∷ Swap ∷ []
-
-pub keyword_found : (w : List ℕ) (r : Option Keyword) → option_map (λ k. k) r ≡ find (λ j. same w (spelled j)) all → KeywordIs w r
-unfolding spelled
-keyword_found w (Some k) e = word_found w all k (sym e)
-keyword_found w None e = word_missing w all (sym e)
 
 -- the words by their numbers, from k on
 abbrev numbered : ℕ → List Keyword → Keyword → ℕ → Keyword

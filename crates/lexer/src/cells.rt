@@ -60,19 +60,17 @@ pub fn load(work: &Work, i: usize) -> Cell
     }
 }
 
-// Writes a cell, and no other.
+// Writes a cell, and no other. Word by word: a copy of a slice would first put all of them on the stack.
 pub fn store(work: &mut Work, i: usize, cell: Cell)
     requires { i < 25600 }
     ensures { Stored work.old work.new i cell }
 {
     let at = EACH * i;
-    work[at..at + EACH].copy_from_slice(&[
-        cell.kind,
-        cell.flag,
-        cell.first,
-        cell.second,
-        cell.third,
-        cell.fourth,
-        cell.fifth,
-    ]);
+    work[at] = cell.kind;
+    work[at + 1] = cell.flag;
+    work[at + 2] = cell.first;
+    work[at + 3] = cell.second;
+    work[at + 4] = cell.third;
+    work[at + 5] = cell.fourth;
+    work[at + 6] = cell.fifth;
 }

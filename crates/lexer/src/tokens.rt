@@ -189,11 +189,19 @@ fn value(digits: &[u8]) -> u64
     n
 }
 
-// Whether a word is spelled like another: it is ==, and stays since it is public.
+// Whether a word is spelled like another. A loop: with a constant it ends at the first byte that differs, where == reads all of them.
 pub fn spells(word: &[u8], with: &[u8]) -> bool
     ensures { result ≡ same word.now with.now }
 {
-    word == with
+    if word.len() != with.len() {
+        return false;
+    }
+    for i in 0..word.len() {
+        if word[i] != with[i] {
+            return false;
+        }
+    }
+    true
 }
 
 impl Keyword {
@@ -219,43 +227,54 @@ impl Keyword {
         Keyword::Split,
         Keyword::Swap,
     ];
-
-    #[tactic(auto, unfolding(crate::specs::Marks::spelled))]
-    fn spelling(self) -> &'static [u8]
-        ensures { result.now ≡ spelled self }
-    {
-        match self {
-            Keyword::Begin => b"BEGIN",
-            Keyword::End => b"END",
-            Keyword::Function => b"function",
-            Keyword::If => b"if",
-            Keyword::Else => b"else",
-            Keyword::While => b"while",
-            Keyword::For => b"for",
-            Keyword::In => b"in",
-            Keyword::Print => b"print",
-            Keyword::Next => b"next",
-            Keyword::Exit => b"exit",
-            Keyword::Delete => b"delete",
-            Keyword::Return => b"return",
-            Keyword::Length => b"length",
-            Keyword::Upper => b"upper",
-            Keyword::Index => b"index",
-            Keyword::Substr => b"substr",
-            Keyword::Split => b"split",
-            Keyword::Swap => b"swap",
-        }
-    }
 }
 
-// Which reserved word a word is, if it is one.
+// Which reserved word a word is, if it is one. A chain: each word is compared with a constant, which costs much less than a search in a table.
+#[tactic(auto, using(crate::proofs::Spelling::spelled_same), unfolding(crate::specs::Marks::spelled))]
 fn reserved(word: &[u8]) -> Option<Keyword>
     ensures { KeywordIs word.now result }
 {
-    Keyword::ALL
-        .iter()
-        .copied()
-        .find(|k| spells(word, k.spelling()))
+    if spells(word, b"BEGIN") {
+        Some(Keyword::Begin)
+    } else if spells(word, b"END") {
+        Some(Keyword::End)
+    } else if spells(word, b"function") {
+        Some(Keyword::Function)
+    } else if spells(word, b"if") {
+        Some(Keyword::If)
+    } else if spells(word, b"else") {
+        Some(Keyword::Else)
+    } else if spells(word, b"while") {
+        Some(Keyword::While)
+    } else if spells(word, b"for") {
+        Some(Keyword::For)
+    } else if spells(word, b"in") {
+        Some(Keyword::In)
+    } else if spells(word, b"print") {
+        Some(Keyword::Print)
+    } else if spells(word, b"next") {
+        Some(Keyword::Next)
+    } else if spells(word, b"exit") {
+        Some(Keyword::Exit)
+    } else if spells(word, b"delete") {
+        Some(Keyword::Delete)
+    } else if spells(word, b"return") {
+        Some(Keyword::Return)
+    } else if spells(word, b"length") {
+        Some(Keyword::Length)
+    } else if spells(word, b"upper") {
+        Some(Keyword::Upper)
+    } else if spells(word, b"index") {
+        Some(Keyword::Index)
+    } else if spells(word, b"substr") {
+        Some(Keyword::Substr)
+    } else if spells(word, b"split") {
+        Some(Keyword::Split)
+    } else if spells(word, b"swap") {
+        Some(Keyword::Swap)
+    } else {
+        None
+    }
 }
 
 // What stands at a place of the text, and where it ends; what does not count is no token.

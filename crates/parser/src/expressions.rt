@@ -550,21 +550,19 @@ impl<'a> Reader<'a> {
         }
     }
 
-    // Goes on behind an operand.
+    // Goes on behind an operand. It calls `finish` in one place: a second one keeps that from being inlined, and its answer goes through memory.
     fn go_on(&mut self, s: Spot, node: usize, high: u64) -> Option<Turn>
         requires room { Room self.old.count s.nodes 1 s }
         ensures pays { Follows self.old self.new s node high result }
         ensures same { Same self.old self.new }
     {
-        let Some(token) = peek(self.work, self.count, s.place) else {
-            return self.finish(s, node);
-        };
-        let level = level(token, is_place(self.work, node));
-        if self.binds(s.depth, level, high) {
-            self.bind(s, node, token, level)
-        } else {
-            self.finish(s, node)
+        if let Some(token) = peek(self.work, self.count, s.place) {
+            let level = level(token, is_place(self.work, node));
+            if self.binds(s.depth, level, high) {
+                return self.bind(s, node, token, level);
+            }
         }
+        self.finish(s, node)
     }
 }
 
