@@ -1,5 +1,6 @@
 pub mod Putting
 pub mod Joining
 pub mod Widths
+pub mod Windows
 pub mod Ending
 pub mod Going

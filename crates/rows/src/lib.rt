@@ -1,6 +1,7 @@
 // What print writes into the row that is lent; a long print goes on in the next row.
 #![tactic(auto)]
 
+mod copying;
 mod pen;
 
 ghost use Rattle.std.specs.Prelude.{◌≡◌, ◌+◌, ◌-◌, ◌^◌, ◌<◌, ◌≤◌, [], ◌∷◌, length, drop, nat_lt};
@@ -43,7 +44,7 @@ fn write_value(mem: &Memory, v: Value, pen: &mut Pen)
         Value::Unset => {}
         Value::Number(n) => pen.text(&decimal_of(n)),
         Value::Short(short) => pen.text(&short),
-        Value::Text(handle) => pen.text(&text_view(mem, handle)),
+        Value::Text(handle) => pen.packed(&text_view(mem, handle)),
     }
 }
 
@@ -118,7 +119,8 @@ pub fn print_values(
     end_print(&mut pen, used, done)
 }
 
-// Writes the line and byte 10, in the same way.
+// Writes the line and byte 10, in the same way. Inline, since most lines are short.
+#[inline]
 pub fn print_line(mem: &Memory, place: Place, done: usize, out: &mut [u8], used: usize) -> Printed
     requires { 4096 ≤ length out.old }
     ensures row { out.new ≡ over_row out.old used (drop done (printed_line (parts mem.now) place)) }
@@ -130,7 +132,7 @@ pub fn print_line(mem: &Memory, place: Place, done: usize, out: &mut [u8], used:
         at: used,
         skip: done,
     };
-    pen.text(&line_window(mem, place));
+    pen.packed(&line_window(mem, place));
     end_print(&mut pen, used, done)
 }
 

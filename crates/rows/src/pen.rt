@@ -1,9 +1,15 @@
 // Writing texts and bytes into a row, behind one another.
 ghost use Rattle.std.specs.Prelude.{◌≡◌, [], ◌∷◌};
+ghost use Rattle.store.specs.Words.{window};
 ghost use Rattle.rows.specs.Pens.{writing, put};
 
+use crate::copying::packed_out;
 use store::bytes::Bytes;
 use store::copying::copy_out;
+use store::packed::Packed;
+
+// From how many bytes on a packed text is written in blocks. In a shorter one the bytes before the first whole word can cost more than the blocks save.
+const LONG: usize = 256;
 
 // A row, where its next byte goes, and how many bytes are passed over before one is written, since an earlier row has them.
 #[derive(Drop)]
@@ -21,6 +27,20 @@ impl Pen<'_> {
     {
         self.at += copy_out(t, self.skip, self.row, self.at);
         self.skip = self.skip.saturating_sub(t.len());
+    }
+
+    // Writes a packed text in the same way: a long one in blocks, its whole words as they lie. Inline, as `text` is where it is called: short texts are many.
+    #[inline]
+    pub fn packed(&mut self, t: &Packed)
+        ensures same_row { self.new.row.ghost_name ≡ self.old.row.ghost_name }
+        ensures written { writing self.new ≡ put (writing self.old) (window t.now.from t.now.len t.now.words.now) }
+    {
+        if t.len < LONG {
+            self.text(t);
+        } else {
+            self.at += packed_out(t, self.skip, self.row, self.at);
+            self.skip = self.skip.saturating_sub(t.len);
+        }
     }
 
     // Writes a byte, if there is room for it.

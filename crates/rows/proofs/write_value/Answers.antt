@@ -14,4 +14,4 @@ returns-in-Short-clause-written c = rw c.in-Short.is c.text-in-Short.ensures.wri
 
 pub returns-in-Text-clause-written : goal.returns-in-Text-clause-written
 unfolding as_text
-returns-in-Text-clause-written c = rw c.in-Text.is (c.text-in-Text.ensures.written ∙ ap (put _) c.text_view.ensures)
+returns-in-Text-clause-written c = rw c.in-Text.is (c.packed.ensures.written ∙ ap (put _) c.text_view.ensures)
