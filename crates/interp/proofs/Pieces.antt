@@ -5,7 +5,7 @@ use Rattle.store.specs.declared.short.Short.{Short}
 use Rattle.store.specs.Words.{bytes_of}
 use Rattle.store.specs.Short.{packed, short_of}
 use Rattle.store.proofs.Packing.{length_bytes, bytes_below}
-use Rattle.store.proofs.Shorts.{short_same, short_len, short_word}
+use Rattle.store.proofs.Shorts.{short_same, short_len, short_word, word_back}
 
 pub pow_bytes : (m : ℕ) → 2 ^ (8 * m) ≡ 256 ^ m
 pow_bytes zero = refl
@@ -13,22 +13,13 @@ pow_bytes (suc m) =
     let e : 8 * suc m ≡ 8 * m + 8 = omega arith in
     ap (λ n. 2 ^ n) e ∙ pow-add 2 (8 * m) 8 ∙ ap (λ t. t * 256) (pow_bytes m) ∙ sym (pow-suc 256 m)
 
-packed_back : (k w : ℕ) → w < 256 ^ k → packed (bytes_of k w) ≡ w
-unfolding packed bytes_of
-packed_back zero w h = omega arith
-packed_back (suc k) w h =
-    let p : 256 ^ suc k ≡ 256 ^ k * 256 = pow-suc 256 k in
-    let l : w / 256 < 256 ^ k = omega arith in
-    let e = packed_back k (w / 256) l in
-    ap (λ t. w % 256 + 256 * t) e ∙ omega arith
-
 -- a short text is known by its bytes
 pub short_is : (b : Short) (bs : List ℕ) → bytes_of b.len b.word ≡ bs → b ≡ short_of bs
 short_is b bs e =
     let few : length (bytes_of b.len b.word) ≤ 8 = omega (arith, length_bytes b.len b.word, b.few) in
     let own : b ≡ short_of (bytes_of b.len b.word) =
     short_same b (short_of (bytes_of b.len b.word))
-    (sym (short_word (bytes_of b.len b.word) few (bytes_below b.len b.word) ∙ packed_back b.len b.word b.clean))
+    (sym (short_word (bytes_of b.len b.word) few (bytes_below b.len b.word) ∙ word_back b.len b.word b.clean))
     (sym (short_len (bytes_of b.len b.word) few ∙ length_bytes b.len b.word)) in
     own ∙ ap short_of e
 

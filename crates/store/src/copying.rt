@@ -52,15 +52,32 @@ fn word_of(bytes: &[u8; LONGEST]) -> u64
     u64::from_le_bytes(*bytes)
 }
 
+// The first eight bytes of a text as a word, with 0 where it has none: by one read or by eight, since a copy of them would be read from memory again.
+fn first_word<T: Bytes>(t: &T) -> u64
+    ensures { Read (take LONGEST (T.Bytes.bytes t.now)) result }
+{
+    if t.len() >= LONGEST {
+        return t.word(0);
+    }
+    word_of(&[
+        t.at(0),
+        t.at(1),
+        t.at(2),
+        t.at(3),
+        t.at(4),
+        t.at(5),
+        t.at(6),
+        t.at(7),
+    ])
+}
+
 // The first eight bytes of a text, or all of them where it has no more.
 pub fn short_of<T: Bytes>(t: &T) -> Short
     ensures short { result ≡ short_of (T.Bytes.bytes t.now) }
     ensures bytes { bytes_of result.len result.word ≡ take LONGEST (T.Bytes.bytes t.now) }
 {
-    let mut bytes = [0u8; LONGEST];
-    let len = copy_out(t, 0, &mut bytes, 0);
     Short {
-        word: word_of(&bytes),
-        len,
+        word: first_word(t),
+        len: t.len().min(LONGEST),
     }
 }
