@@ -2,7 +2,8 @@
 use Rattle.std.proofs.Common.{◌≡◌, ℕ, ◌+◌, ◌-◌, ◌<◌, ◌≤◌, min, Bool, true, false, eqb, ltb, leb, List, [], ◌∷◌, length, get_or, take, drop, ℤ, Some, None, sym, refl, ap, ◌∙◌, inl, inr, arith, length-drop, length-take, length-take-le, take_all, take-add}
 use lib.Seq.{paste, take-paste}
 use Rattle.std.proofs.lemmas.Bool.{cases_lt, eq-eqb, ne_eqb}
-use Rattle.language.specs.Text.{pick, or, number_of, as_text}
+use Rattle.std.proofs.lemmas.List.{drop_all}
+use Rattle.language.specs.Text.{pick, or, number_of, as_text, fields_from}
 use Rattle.language.specs.Meaning.{field_number}
 use Rattle.store.specs.declared.cells.Value.{Value}
 use Rattle.store.specs.Numbers.{number}
@@ -60,6 +61,13 @@ text_most m h e =
     let d = length-drop 20482 (part 94976 98304 m) in
     let u = length_unpacked (drop 20482 (part 94976 98304 m)) in
     simp (length-take, length-drop) (omega arith)
+
+-- behind the last field there is none
+pub all_counted : (bs : List ℕ) (n from : ℕ) → length (fields_from [] bs) ≡ n + length (fields_from [] (drop from bs)) → length bs ≤ from → n ≡ length (fields_from [] bs)
+unfolding fields_from
+all_counted bs n from e h =
+    let f : length (fields_from [] (drop from bs)) ≡ 0 = ap (λ x. length (fields_from [] x)) (drop_all from bs h) in
+    omega arith
 
 -- a line that has no room isn't built
 unbuilt : (p : Parts) (l : Line) (n k : ℕ) → built p l n k ≡ None → after_built p l n k ≡ p

@@ -1,8 +1,9 @@
 -- The language's arithmetic is that of the integers.
-use Rattle.std.proofs.Common.{◌≡◌, ℕ, zero, suc, ◌+◌, ◌-◌, ◌*◌, ◌/◌, ◌%◌, ◌<◌, ◌≤◌, false, ◌⊎◌, ℤ, pos, negsuc, ◌+ℤ◌, ◌-ℤ◌, ◌*ℤ◌, neg_ℤ, ◌≤ℤ◌, ◌<ℤ◌, Some, None, Option, Result, sym, refl, ap, ◌∙◌, inl, inr, mul-zero, arith}
+use Rattle.std.proofs.Common.{◌≡◌, ℕ, zero, suc, ◌+◌, ◌-◌, ◌*◌, ◌/◌, ◌%◌, ◌^◌, ◌<◌, ◌≤◌, false, ◌⊎◌, ℤ, pos, negsuc, ◌+ℤ◌, ◌-ℤ◌, ◌*ℤ◌, neg_ℤ, ◌≤ℤ◌, ◌<ℤ◌, Some, None, Option, Result, sym, refl, ap, ◌∙◌, inl, inr, div-le_self, mul-zero, w64, SFits, arith}
 use native.Mathlib.Nat.{mod-add-div}
 use lib.IntN.{sub_ℕ}
-use lib.Signed.{quot_z, rem_z}
+use lib.Signed.{quot_z, rem_z, mag_rem}
+use mir.Syntax.{w128}
 use Rattle.std.specs.Option.{ok_or}
 use Rattle.values.specs.declared.numbers.Trouble.{Trouble}
 use Rattle.values.specs.declared.numbers.Trouble.TheVariants.{TooLarge}
@@ -100,6 +101,21 @@ pub left_over_is : (a b : ℤ) → sum (number a) (opposite (product (number b) 
 left_over_is a b =
     ap (λ v. sum (number a) (opposite (product (number b) v))) (quotient_is a b) ∙ ap (λ v. sum (number a) (opposite v)) (product_is b (quot_z a b))
     ∙ difference_is a (b *ℤ quot_z a b) ∙ ap number (rest_is a b)
+
+-- a quotient and a remainder of two numbers have room in twice as many bits
+
+neg_fits : (n : ℕ) → n < 2 ^ 64 → SFits w128 (neg_ℤ (pos n))
+neg_fits zero h = record { sfits = omega arith }
+neg_fits (suc n) h = record { sfits = omega arith }
+
+pub quotient_fits : (a b : ℤ) → SFits w64 a → SFits w128 (quot_z a b)
+quotient_fits (pos a) (pos b) h = record { sfits = omega (arith, h.sfits, div-le_self a b) }
+quotient_fits (pos a) (negsuc b) h = neg_fits (a / suc b) (omega (arith, h.sfits, div-le_self a (suc b)))
+quotient_fits (negsuc a) (pos b) h = neg_fits (suc a / b) (omega (arith, h.sfits, div-le_self (suc a) b))
+quotient_fits (negsuc a) (negsuc b) h = record { sfits = omega (arith, h.sfits, div-le_self (suc a) (suc b)) }
+
+pub left_over_fits : (a b : ℤ) → SFits w64 a → SFits w128 (rem_z a b)
+left_over_fits a b h = record { sfits = omega (arith, h.sfits, mag_rem a b) }
 
 -- what division answers
 
