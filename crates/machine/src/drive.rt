@@ -36,8 +36,8 @@ impl<E> From<E> for Failure<E> {
 
 // Where pieces come from and rows go.
 pub trait World {
-    // Why one couldn't be given or shown. It can be copied, so that what comes of a run can be kept or let go, whatever the world.
-    type Error: Copy;
+    // Why one couldn't be given or shown. It can be copied and sent, so that what comes of a run can be, too, whatever the world.
+    type Error: Copy + Send + Sync;
 
     ghost account: { Account Self };
 

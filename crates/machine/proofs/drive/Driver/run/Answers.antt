@@ -9,7 +9,7 @@ loop-init g c = record {
 }
 
 pub put-requires : goal.put-requires
-put-requires g c = write_within c.loop.invariant.going c.in-Write.n c.in-Write.is
+put-requires g c = (c.type_bounds.send-W-Error, (c.type_bounds.sync-W-Error, write_within c.loop.invariant.going c.in-Write.n c.in-Write.is))
 
 pub returns-in-Done-clause-ended : goal.returns-in-Done-clause-ended
 returns-in-Done-clause-ended g c = done_with c.loop.invariant.going _ _ c.in-Done.is
