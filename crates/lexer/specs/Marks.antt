@@ -1,6 +1,6 @@
 -- Tokens as the code has them, what they stand for, and how they are kept in cells. Assumes nothing: these are definitions.
 use Rattle.std.specs.Prelude.{◌≡◌, ℕ, suc, ◌+◌, ◌%◌, ◌<◌, ◌≤◌, false, List, [], ◌∷◌, length, take, drop, Some, None, Option, ◌==◌, slice_index_or}
-use Rattle.language.specs.Text.{pick}
+use Rattle.language.specs.Text.{pick, any, same}
 use Rattle.language.specs.Program
 use Rattle.language.specs.Program.{word, number, quoted, sign, bad, quote_part, tokens, cut_up, rest, kept_word, w_begin, w_end, w_function, w_if, w_else, w_while, w_for, w_in, w_print, w_next, w_exit, w_delete, w_return, w_length, w_upper, w_index, w_substr, w_split, w_swap}
 use Rattle.lexer.specs.Memory.{cell}
@@ -38,6 +38,11 @@ spelled Swap = w_swap
 abbrev pub KeywordIs : List ℕ → Option Keyword → Type 0
 KeywordIs w (Some k) = w ≡ spelled k
 KeywordIs w None = kept_word w ≡ false
+
+-- which function that is built in a word names, if it does
+abbrev pub BuiltInIs : List ℕ → Option Keyword → Type 0
+BuiltInIs w (Some k) = w ≡ spelled k
+BuiltInIs w None = any (same w) (w_length ∷ w_upper ∷ w_index ∷ w_substr ∷ w_split ∷ w_swap ∷ []) ≡ false
 
 -- the bytes of a name in the text
 unfoldable pub bytes_of : List ℕ → Name → List ℕ

@@ -4,7 +4,7 @@ ghost use Rattle.language.specs.Text.{or, same, digit, leading};
 ghost use Rattle.language.specs.Program.{letter, word_part, past_line, word, cut_up};
 ghost use Rattle.lexer.specs.Ends.{SignIs, QuoteEnded};
 ghost use Rattle.lexer.specs.Classes.{class_of};
-ghost use Rattle.lexer.specs.Marks.{spelled, KeywordIs, TokenSays, Seen, PieceSays, token_of, keyword_at, TokensIn};
+ghost use Rattle.lexer.specs.Marks.{spelled, KeywordIs, BuiltInIs, TokenSays, Seen, PieceSays, token_of, keyword_at, TokensIn};
 ghost use Rattle.lexer.specs.declared.tokens.Class.TheVariants.{Digit, Quote, Other};
 
 use crate::cells::{Cell, Work, load, store};
@@ -229,6 +229,28 @@ impl Keyword {
     ];
 }
 
+// Which function that is built in a word names, if it does.
+#[tactic(auto, using(crate::proofs::Spelling::spelled_same), unfolding(crate::specs::Marks::spelled))]
+fn built_in(word: &[u8]) -> Option<Keyword>
+    ensures { BuiltInIs word.now result }
+{
+    if spells(word, b"length") {
+        Some(Keyword::Length)
+    } else if spells(word, b"upper") {
+        Some(Keyword::Upper)
+    } else if spells(word, b"index") {
+        Some(Keyword::Index)
+    } else if spells(word, b"substr") {
+        Some(Keyword::Substr)
+    } else if spells(word, b"split") {
+        Some(Keyword::Split)
+    } else if spells(word, b"swap") {
+        Some(Keyword::Swap)
+    } else {
+        None
+    }
+}
+
 // Which reserved word a word is, if it is one. A chain: each word is compared with a constant, which costs much less than a search in a table.
 #[tactic(auto, using(crate::proofs::Spelling::spelled_same), unfolding(crate::specs::Marks::spelled))]
 fn reserved(word: &[u8]) -> Option<Keyword>
@@ -260,20 +282,8 @@ fn reserved(word: &[u8]) -> Option<Keyword>
         Some(Keyword::Delete)
     } else if spells(word, b"return") {
         Some(Keyword::Return)
-    } else if spells(word, b"length") {
-        Some(Keyword::Length)
-    } else if spells(word, b"upper") {
-        Some(Keyword::Upper)
-    } else if spells(word, b"index") {
-        Some(Keyword::Index)
-    } else if spells(word, b"substr") {
-        Some(Keyword::Substr)
-    } else if spells(word, b"split") {
-        Some(Keyword::Split)
-    } else if spells(word, b"swap") {
-        Some(Keyword::Swap)
     } else {
-        None
+        built_in(word)
     }
 }
 

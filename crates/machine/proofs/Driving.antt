@@ -85,7 +85,7 @@ module _ {S : Type 0} {a : Account S} {t : List ℕ} {w₀ : S} {over : Bool} {t
     }
 
 -- which act an answer is, with the row beside it
-abbrev act_of : Told → (row : List ℕ) → Act
+abbrev pub act_of : Told → (row : List ℕ) → Act
 act_of More row = more
 act_of (Write n) row = write (take n row)
 act_of (Done k) row = done k

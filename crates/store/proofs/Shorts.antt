@@ -2,7 +2,7 @@
 use Rattle.std.proofs.Common.{◌≡◌, ℕ, zero, suc, ◌+◌, ◌*◌, ◌/◌, ◌%◌, ◌^◌, ◌<◌, ◌≤◌, min, List, [], ◌∷◌, ◌++◌, length, get_or, take, drop, sym, refl, ap, ◌∙◌, subst, length-take, mod-eq_of_lt, pow-suc, arith}
 use native.Mathlib.Bridge.{le_prop}
 use Rattle.std.proofs.Math.Seq.{drop-nil}
-use Rattle.std.proofs.lemmas.List.{take_all, get_or_past}
+use Rattle.std.proofs.lemmas.List.{take_all}
 use Rattle.store.specs.declared.short.Short.{Short}
 use Rattle.store.specs.Words.{bytes_of, over}
 use Rattle.store.specs.Short.{low_short, packed, short_of, Read}
@@ -41,53 +41,6 @@ packed_bytes (b ∷ bs) f =
     let e : (b + 256 * packed bs) % 256 ≡ b = omega arith in
     let g : (b + 256 * packed bs) / 256 ≡ packed bs = omega arith in
     rw (e, g) (ap (λ t. b ∷ t) (packed_bytes bs (λ i. f (suc i))))
-
--- eight bytes that were read one by one, with 0 behind the last
-packed_reads : (bs : List ℕ) →
-    packed (get_or bs 0 0 ∷ get_or bs 1 0 ∷ get_or bs 2 0 ∷ get_or bs 3 0 ∷ get_or bs 4 0 ∷ get_or bs 5 0 ∷ get_or bs 6 0 ∷ get_or bs 7 0 ∷ []) ≡ packed (take 8 bs)
-unfolding packed
-packed_reads [] = refl
-packed_reads (a ∷ []) = refl
-packed_reads (a ∷ b ∷ []) = refl
-packed_reads (a ∷ b ∷ c ∷ []) = refl
-packed_reads (a ∷ b ∷ c ∷ d ∷ []) = refl
-packed_reads (a ∷ b ∷ c ∷ d ∷ e ∷ []) = refl
-packed_reads (a ∷ b ∷ c ∷ d ∷ e ∷ f ∷ []) = refl
-packed_reads (a ∷ b ∷ c ∷ d ∷ e ∷ f ∷ g ∷ []) = refl
-packed_reads (a ∷ b ∷ c ∷ d ∷ e ∷ f ∷ g ∷ h ∷ bs) = refl
-
-word_read : (bs : List ℕ) (v a b c d e f g h : ℕ) →
-    a ≡ get_or bs 0 0 → b ≡ get_or bs 1 0 → c ≡ get_or bs 2 0 → d ≡ get_or bs 3 0 → e ≡ get_or bs 4 0 → f ≡ get_or bs 5 0 → g ≡ get_or bs 6 0 → h ≡ get_or bs 7 0 →
-    v ≡ a + b * 256 + c * 65536 + d * 16777216 + e * 4294967296 + f * 1099511627776 + g * 281474976710656 + h * 72057594037927936 → v ≡ packed (take 8 bs)
-unfolding packed
-word_read bs v a b c d e f g h p₀ p₁ p₂ p₃ p₄ p₅ p₆ p₇ s =
-    let same : packed (a ∷ b ∷ c ∷ d ∷ e ∷ f ∷ g ∷ h ∷ []) ≡ packed (get_or bs 0 0 ∷ get_or bs 1 0 ∷ get_or bs 2 0 ∷ get_or bs 3 0 ∷ get_or bs 4 0 ∷ get_or bs 5 0 ∷ get_or bs 6 0 ∷ get_or bs 7 0 ∷ []) = cc in
-    s ∙ (omega arith) ∙ same ∙ packed_reads bs
-
--- eight facts, for each place
-each_read : (bs : List ℕ) (a b c d e f g h : ℕ) →
-    a ≡ get_or bs 0 0 → b ≡ get_or bs 1 0 → c ≡ get_or bs 2 0 → d ≡ get_or bs 3 0 → e ≡ get_or bs 4 0 → f ≡ get_or bs 5 0 → g ≡ get_or bs 6 0 → h ≡ get_or bs 7 0 →
-    a < 256 → b < 256 → c < 256 → d < 256 → e < 256 → f < 256 → g < 256 → h < 256 → length bs ≤ 8 → (i : ℕ) → get_or bs i 0 < 256
-each_read bs a b c d e f g h p₀ p₁ p₂ p₃ p₄ p₅ p₆ p₇ q₀ q₁ q₂ q₃ q₄ q₅ q₆ q₇ l zero = omega arith
-each_read bs a b c d e f g h p₀ p₁ p₂ p₃ p₄ p₅ p₆ p₇ q₀ q₁ q₂ q₃ q₄ q₅ q₆ q₇ l (suc zero) = omega arith
-each_read bs a b c d e f g h p₀ p₁ p₂ p₃ p₄ p₅ p₆ p₇ q₀ q₁ q₂ q₃ q₄ q₅ q₆ q₇ l (suc (suc zero)) = omega arith
-each_read bs a b c d e f g h p₀ p₁ p₂ p₃ p₄ p₅ p₆ p₇ q₀ q₁ q₂ q₃ q₄ q₅ q₆ q₇ l (suc (suc (suc zero))) = omega arith
-each_read bs a b c d e f g h p₀ p₁ p₂ p₃ p₄ p₅ p₆ p₇ q₀ q₁ q₂ q₃ q₄ q₅ q₆ q₇ l (suc (suc (suc (suc zero)))) = omega arith
-each_read bs a b c d e f g h p₀ p₁ p₂ p₃ p₄ p₅ p₆ p₇ q₀ q₁ q₂ q₃ q₄ q₅ q₆ q₇ l (suc (suc (suc (suc (suc zero))))) = omega arith
-each_read bs a b c d e f g h p₀ p₁ p₂ p₃ p₄ p₅ p₆ p₇ q₀ q₁ q₂ q₃ q₄ q₅ q₆ q₇ l (suc (suc (suc (suc (suc (suc zero)))))) = omega arith
-each_read bs a b c d e f g h p₀ p₁ p₂ p₃ p₄ p₅ p₆ p₇ q₀ q₁ q₂ q₃ q₄ q₅ q₆ q₇ l (suc (suc (suc (suc (suc (suc (suc zero))))))) = omega arith
-each_read bs a b c d e f g h p₀ p₁ p₂ p₃ p₄ p₅ p₆ p₇ q₀ q₁ q₂ q₃ q₄ q₅ q₆ q₇ l (suc (suc (suc (suc (suc (suc (suc (suc i)))))))) =
-    rw (get_or_past bs (suc (suc (suc (suc (suc (suc (suc (suc i)))))))) 0 (omega arith)) (omega arith)
-
--- eight reads of at most eight bytes, as a word
-pub reads : (bs : List ℕ) (v a b c d e f g h : ℕ) → length bs ≤ 8 →
-    a ≡ get_or bs 0 0 → b ≡ get_or bs 1 0 → c ≡ get_or bs 2 0 → d ≡ get_or bs 3 0 → e ≡ get_or bs 4 0 → f ≡ get_or bs 5 0 → g ≡ get_or bs 6 0 → h ≡ get_or bs 7 0 →
-    a < 256 → b < 256 → c < 256 → d < 256 → e < 256 → f < 256 → g < 256 → h < 256 →
-    v ≡ a + b * 256 + c * 65536 + d * 16777216 + e * 4294967296 + f * 1099511627776 + g * 281474976710656 + h * 72057594037927936 → Read bs v
-reads bs v a b c d e f g h l p₀ p₁ p₂ p₃ p₄ p₅ p₆ p₇ q₀ q₁ q₂ q₃ q₄ q₅ q₆ q₇ s = record {
-  word = word_read bs v a b c d e f g h p₀ p₁ p₂ p₃ p₄ p₅ p₆ p₇ s ∙ ap packed (take_all 8 bs l);
-  below = each_read bs a b c d e f g h p₀ p₁ p₂ p₃ p₄ p₅ p₆ p₇ q₀ q₁ q₂ q₃ q₄ q₅ q₆ q₇ l;
-}
 
 -- a row of eight bytes, as a word
 pub row_read : (row : List ℕ) (v : ℕ) → length row ≡ 8 → ((i : ℕ) → get_or row i 0 < 256) →
@@ -161,7 +114,7 @@ first_below bs v t =
     let n : length (take 8 bs) ≡ min (length bs) 8 = length-take 8 bs ∙ (omega arith) in
     subst (λ x. x < 256 ^ min (length bs) 8) (sym t.word) (subst (λ k. packed (take 8 bs) < 256 ^ k) n (packed_bound (take 8 bs) t.below))
 
--- a word whose bytes are the first eight
+-- a number that has room in so many bytes comes back from them
 pub word_back : (k w : ℕ) → w < 256 ^ k → packed (bytes_of k w) ≡ w
 unfolding packed bytes_of
 word_back zero w h = omega arith
@@ -171,6 +124,7 @@ word_back (suc k) w h =
     let e = word_back k (w / 256) l in
     ap (λ t. w % 256 + 256 * t) e ∙ omega arith
 
+-- a word whose bytes are the first eight
 pub whole_read : (bs : List ℕ) (w : ℕ) → w < 256 ^ 8 → bytes_of 8 w ≡ take 8 bs → Read (take 8 bs) w
 whole_read bs w h e = record { word = sym (word_back 8 w h) ∙ ap packed e; below = λ i. subst (λ x. get_or x i 0 < 256) e (bytes_below 8 w i) }
 
@@ -189,14 +143,29 @@ unfolding low_short
 read_short bs s t l =
     short_same s (short_of bs) (sym (mod-eq_of_lt (first_below bs s.word t)) ∙ ap (λ x. x % 256 ^ min (length bs) 8) t.word) l
 
-pub first_clean : (bs row : List ℕ) (v n : ℕ) → Read row v → row ≡ over zeros 0 bs → n ≡ min (length bs) 8 → v < 256 ^ n
-first_clean bs row v n r e l = read_clean bs v n (first_read bs row v r e) l
+-- eight reads of at most eight bytes, as a word
 
-pub first_bytes : (bs row : List ℕ) (v n : ℕ) → Read row v → row ≡ over zeros 0 bs → n ≡ min (length bs) 8 → bytes_of n v ≡ take 8 bs
-first_bytes bs row v n r e l = read_bytes bs v n (first_read bs row v r e) l
+row_below : (a b c d e f g h : ℕ) → a < 256 → b < 256 → c < 256 → d < 256 → e < 256 → f < 256 → g < 256 → h < 256 → (i : ℕ) →
+    get_or (a ∷ b ∷ c ∷ d ∷ e ∷ f ∷ g ∷ h ∷ []) i 0 < 256
+row_below a b c d e f g h p₀ p₁ p₂ p₃ p₄ p₅ p₆ p₇ zero = p₀
+row_below a b c d e f g h p₀ p₁ p₂ p₃ p₄ p₅ p₆ p₇ (suc zero) = p₁
+row_below a b c d e f g h p₀ p₁ p₂ p₃ p₄ p₅ p₆ p₇ (suc (suc zero)) = p₂
+row_below a b c d e f g h p₀ p₁ p₂ p₃ p₄ p₅ p₆ p₇ (suc (suc (suc zero))) = p₃
+row_below a b c d e f g h p₀ p₁ p₂ p₃ p₄ p₅ p₆ p₇ (suc (suc (suc (suc zero)))) = p₄
+row_below a b c d e f g h p₀ p₁ p₂ p₃ p₄ p₅ p₆ p₇ (suc (suc (suc (suc (suc zero))))) = p₅
+row_below a b c d e f g h p₀ p₁ p₂ p₃ p₄ p₅ p₆ p₇ (suc (suc (suc (suc (suc (suc zero)))))) = p₆
+row_below a b c d e f g h p₀ p₁ p₂ p₃ p₄ p₅ p₆ p₇ (suc (suc (suc (suc (suc (suc (suc zero))))))) = p₇
+row_below a b c d e f g h p₀ p₁ p₂ p₃ p₄ p₅ p₆ p₇ (suc (suc (suc (suc (suc (suc (suc (suc i)))))))) = omega arith
 
-pub first_short : (bs row : List ℕ) (s : Short) → Read row s.word → row ≡ over zeros 0 bs → s.len ≡ min (length bs) 8 → s ≡ short_of bs
-first_short bs row s r e l = read_short bs s (first_read bs row s.word r e) l
+pub reads : (bs : List ℕ) (v a b c d e f g h : ℕ) → length bs ≤ 8 →
+    a ≡ get_or bs 0 0 → b ≡ get_or bs 1 0 → c ≡ get_or bs 2 0 → d ≡ get_or bs 3 0 → e ≡ get_or bs 4 0 → f ≡ get_or bs 5 0 → g ≡ get_or bs 6 0 → h ≡ get_or bs 7 0 →
+    a < 256 → b < 256 → c < 256 → d < 256 → e < 256 → f < 256 → g < 256 → h < 256 →
+    v ≡ a + b * 256 + c * 65536 + d * 16777216 + e * 4294967296 + f * 1099511627776 + g * 281474976710656 + h * 72057594037927936 → Read bs v
+reads bs v a b c d e f g h l p₀ p₁ p₂ p₃ p₄ p₅ p₆ p₇ q₀ q₁ q₂ q₃ q₄ q₅ q₆ q₇ s =
+    let row : List ℕ = a ∷ b ∷ c ∷ d ∷ e ∷ f ∷ g ∷ h ∷ [] in
+    let same : row ≡ get_or bs 0 0 ∷ get_or bs 1 0 ∷ get_or bs 2 0 ∷ get_or bs 3 0 ∷ get_or bs 4 0 ∷ get_or bs 5 0 ∷ get_or bs 6 0 ∷ get_or bs 7 0 ∷ [] = cc in
+    let r : Read row v = row_read row v refl (row_below a b c d e f g h q₀ q₁ q₂ q₃ q₄ q₅ q₆ q₇) s in
+    subst (λ x. Read x v) (take_all 8 bs l) (first_read bs row v r (same ∙ eight_reads bs))
 
 -- the short text of bytes
 
